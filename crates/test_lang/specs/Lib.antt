@@ -1,0 +1,7 @@
+pub mod Program
+pub mod Values
+pub mod Kept
+pub mod Runs
+pub mod Signatures
+pub mod Edges
+pub mod Litmus

@@ -1,0 +1,24 @@
+-- Small tests that memory-model engineers know.
+use Rattle.std.specs.Prelude.{ℕ, [], ◌∷◌, replicate}
+use Rattle.test_lang.specs.declared.op.Op.TheVariants.{Load, Store}
+use Rattle.test_lang.specs.Program.{Program}
+
+-- each thread stores to one word and loads the other
+abbrev pub store_buffering : Program
+store_buffering = record { words = 2; threads = (Store 0 ∷ Load 1 ∷ []) ∷ (Store 1 ∷ Load 0 ∷ []) ∷ [] }
+
+-- data and then a flag are stored; the flag and then the data are loaded
+abbrev pub message_passing : Program
+message_passing = record { words = 2; threads = (Store 0 ∷ Store 1 ∷ []) ∷ (Load 1 ∷ Load 0 ∷ []) ∷ [] }
+
+-- a load behind two stores of its own thread
+abbrev pub own_stores : Program
+own_stores = record { words = 1; threads = (Store 0 ∷ Store 0 ∷ Load 0 ∷ []) ∷ [] }
+
+-- two stores of one thread against two loads of another
+abbrev pub two_stores_two_loads : Program
+two_stores_two_loads = record { words = 1; threads = (Store 0 ∷ Store 0 ∷ []) ∷ (Load 0 ∷ Load 0 ∷ []) ∷ [] }
+
+-- one store against so many loads
+abbrev pub one_store_loads : ℕ → Program
+one_store_loads n = record { words = 1; threads = (Store 0 ∷ []) ∷ replicate n (Load 0) ∷ [] }

@@ -1,0 +1,48 @@
+-- Runs, and the candidates of loads.
+use Rattle.std.specs.Prelude.{◌≡◌, ℕ, ◌^◌, ◌<◌, List, [], ◌∷◌, map, filter, find, length, Bool, not, ◌&&◌, ◌==◌, nat_lt, Option, None, slice_index, All}
+use Rattle.std.specs.List.{list_any}
+use Rattle.test_lang.specs.Program.{Program, all_nodes}
+use Rattle.test_lang.specs.Values.{is_store_at, same_thread, one_word, value_of, rank_of, load_count, load_nodes}
+
+-- A run: one value for each load, by rank.
+pub record IsRun (p : Program) (run : List ℕ) : Type 0 where
+  pub whole : length run ≡ load_count p
+  pub values : All (λ value. value < 2 ^ 32) run
+
+-- the value that the load gives in the run
+abbrev pub value_read : Program → List ℕ → ℕ → ℕ
+value_read p run load = slice_index run (rank_of p load)
+
+-- a store to the load's word
+abbrev pub writes_for : Program → ℕ → ℕ → Bool
+writes_for p load n = is_store_at p n && one_word p load n
+
+-- the last of a list, or 0 where it is empty
+abbrev pub last_or_0 : List ℕ → ℕ
+last_or_0 [] = 0
+last_or_0 (x ∷ []) = x
+last_or_0 (x ∷ y ∷ more) = last_or_0 (y ∷ more)
+
+-- the value of the last earlier store to the load's word in its own thread, or the initial value
+abbrev pub base : Program → ℕ → ℕ
+base p load = last_or_0 (map (value_of p) (filter (λ n. writes_for p load n && (same_thread p load n && nat_lt n load)) (all_nodes p)))
+
+-- the values of all stores to the load's word in other threads, in node order
+abbrev pub others : Program → ℕ → List ℕ
+others p load = map (value_of p) (filter (λ n. writes_for p load n && not (same_thread p load n)) (all_nodes p))
+
+-- The candidates of a load: the base first.
+abbrev pub candidates : Program → ℕ → List ℕ
+candidates p load = base p load ∷ others p load
+
+-- the load gives the value of one of its candidates
+abbrev pub reads_candidate : Program → List ℕ → ℕ → Bool
+reads_candidate p run load = list_any (λ candidate. candidate == value_read p run load) (candidates p load)
+
+-- the first load in node order whose value is no candidate's
+abbrev pub first_outside : Program → List ℕ → Option ℕ
+first_outside p run = find (λ load. not (reads_candidate p run load)) (load_nodes p)
+
+-- A run is inside where each of its values is a candidate's.
+abbrev pub IsInside : Program → List ℕ → Type 0
+IsInside p run = first_outside p run ≡ None

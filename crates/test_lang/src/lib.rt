@@ -1,0 +1,5 @@
+//! Tests of a memory model: threads of loads, stores and fences, and what their runs mean.
+#![tactic(auto)]
+
+pub mod litmus;
+pub mod op;
