@@ -1,5 +1,6 @@
 -- A test as plain data: a number of words, and threads, each a list of operations. Its operations, numbered in text order, are its nodes.
-use Rattle.std.specs.Prelude.{ℕ, suc, ◌<◌, List, [], ◌∷◌, ◌++◌, map, length, Bool, false, Option, Some, None, slice_get}
+use Rattle.std.specs.Prelude.{ℕ, suc, ◌<◌, List, [], ◌∷◌, ◌++◌, map, take, length, sum_by, Bool, false, Option, Some, None, slice_get, slice_index_or}
+use Rattle.std.specs.Option.{option_map}
 use Rattle.orders.specs.Orders.{nodes_below}
 use Rattle.test_lang.specs.declared.op.Op.{Op}
 use Rattle.test_lang.specs.declared.op.Op.TheVariants.{Load, Store, Fence}
@@ -39,6 +40,20 @@ op_count p = length (nodes p)
 -- all nodes, rising
 abbrev pub all_nodes : Program → List ℕ
 all_nodes p = nodes_below (op_count p)
+
+-- the operation of a node, and the number of its thread
+abbrev pub op_at : Program → ℕ → Option Op
+op_at p n = option_map (λ node. node.1) (slice_get (nodes p) n)
+
+abbrev pub thread_at : Program → ℕ → Option ℕ
+thread_at p n = option_map (λ node. node.0) (slice_get (nodes p) n)
+
+-- how many operations a thread has, and the node that its first one has or would have
+abbrev pub thread_length : Program → ℕ → ℕ
+thread_length p t = length (slice_index_or p.threads t [])
+
+abbrev pub first_node : Program → ℕ → ℕ
+first_node p t = sum_by length (take t p.threads)
 
 -- the word of the operation, if it has one, is a word of the test
 abbrev pub HasWord : Program → Op → Type 0
