@@ -1,1 +1,4 @@
+pub mod Members
+pub mod Below
 pub mod LeastOrders
+pub mod NextNodes

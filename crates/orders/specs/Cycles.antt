@@ -1,5 +1,5 @@
 -- Cycles of a set of edges.
-use Rattle.std.specs.Prelude.{◌≡◌, ◌≢◌, ℕ, ◌<◌, ◌≤◌, List, [], ◌∷◌, length, AllPairs}
+use Rattle.std.specs.Prelude.{◌≡◌, ◌≢◌, ℕ, ◌≤◌, List, [], ◌∷◌, length, AllPairs}
 use Rattle.orders.specs.Paths.{Linked}
 use Rattle.orders.specs.Orders.{NotAfter}
 

@@ -1,3 +1,4 @@
 pub mod Paths
 pub mod Orders
+pub mod Choices
 pub mod Cycles
