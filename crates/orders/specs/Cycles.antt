@@ -17,7 +17,7 @@ pub record IsLeastOnCycle (E : ℕ → ℕ → Type 0) (node : ℕ) : Type 0 whe
   pub on_cycle : IsOnCycle E node
   pub least : (other : ℕ) → IsOnCycle E other → node ≤ other
 
--- The first, in the order of lists, among the shortest cycles that begin at the node.
+-- The first, in the order of lists, among the shortest cycles that begin at the node. Their first nodes are equal, so what follows is compared.
 pub record IsFirstShortestCycle (E : ℕ → ℕ → Type 0) (start : ℕ) (more : List ℕ) : Type 0 where
   pub is_cycle : IsCycle E (start ∷ more)
   pub shortest : (others : List ℕ) → IsCycle E (start ∷ others) → length more ≤ length others

@@ -15,7 +15,7 @@ IsAcyclic E nodes = (order : List ℕ) × IsOrder E nodes order
 abbrev pub HasNoOrder : (ℕ → ℕ → Type 0) → List ℕ → Type 0
 HasNoOrder E nodes = (order : List ℕ) → ¬ IsOrder E nodes order
 
--- lists compared by their numbers, the first number first; a list stands after each list that it begins with
+-- lists compared by their numbers, the first number first; a list stands after each shorter list that it begins with
 abbrev pub NotAfter : List ℕ → List ℕ → Type 0
 NotAfter [] ys = Unit {0}
 NotAfter (x ∷ xs) [] = ⊥

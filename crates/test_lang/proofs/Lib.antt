@@ -1,0 +1,4 @@
+pub mod EdgeTests
+pub mod EdgeLists
+pub mod OrderTests
+pub mod Examples

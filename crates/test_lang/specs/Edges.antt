@@ -1,14 +1,14 @@
 -- The constraint edges of a run, and its orders.
 use Rattle.std.specs.Prelude.{◌≡◌, ℕ, ◌<◌, List, IsTrue, IsFalse}
-use Rattle.orders.specs.Orders.{IsOrder, IsLeastOrder, IsAcyclic}
-use Rattle.orders.specs.Cycles.{IsCycle}
+use Rattle.orders.specs.Orders.{IsOrder, IsLeastOrder, IsAcyclic, HasNoOrder}
+use Rattle.orders.specs.Cycles.{IsCycle, IsCanonicalCycle}
 use Rattle.test_lang.specs.declared.op.MemModel.{MemModel}
 use Rattle.test_lang.specs.Program.{Program, all_nodes}
 use Rattle.test_lang.specs.Values.{is_load_at, is_store_at, same_thread, one_word, value_of}
 use Rattle.test_lang.specs.Kept.{is_kept}
 use Rattle.test_lang.specs.Runs.{value_read}
 
--- The edges of a run that is inside, one case for each kind.
+-- The edges, one case for each kind. They are meant for a run that is inside.
 pub data Edge (m : MemModel) (p : Program) (run : List ℕ) (a b : ℕ) : Type 0 where
   -- the model keeps a before b
   kept : IsTrue (is_kept m p a b) → Edge m p run a b
@@ -31,6 +31,14 @@ IsLeastRunOrder m p run order = IsLeastOrder (Edge m p run) (all_nodes p) order
 abbrev pub IsRunAcyclic : MemModel → Program → List ℕ → Type 0
 IsRunAcyclic m p run = IsAcyclic (Edge m p run) (all_nodes p)
 
+-- the run has none
+abbrev pub HasNoRunOrder : MemModel → Program → List ℕ → Type 0
+HasNoRunOrder m p run = HasNoOrder (Edge m p run) (all_nodes p)
+
 -- a cycle of the run
 abbrev pub IsRunCycle : MemModel → Program → List ℕ → List ℕ → Type 0
 IsRunCycle m p run cycle = IsCycle (Edge m p run) cycle
+
+-- the canonical one
+abbrev pub IsCanonicalRunCycle : MemModel → Program → List ℕ → List ℕ → Type 0
+IsCanonicalRunCycle m p run cycle = IsCanonicalCycle (Edge m p run) cycle

@@ -4,4 +4,5 @@ pub mod Kept
 pub mod Runs
 pub mod Signatures
 pub mod Edges
+pub mod EdgeList
 pub mod Litmus

@@ -1,6 +1,6 @@
 -- Small tests that memory-model engineers know.
 use Rattle.std.specs.Prelude.{ℕ, [], ◌∷◌, replicate}
-use Rattle.test_lang.specs.declared.op.Op.TheVariants.{Load, Store}
+use Rattle.test_lang.specs.declared.op.Op.TheVariants.{Load, Store, Fence}
 use Rattle.test_lang.specs.Program.{Program}
 
 -- each thread stores to one word and loads the other
@@ -10,6 +10,10 @@ store_buffering = record { words = 2; threads = (Store 0 ∷ Load 1 ∷ []) ∷ 
 -- data and then a flag are stored; the flag and then the data are loaded
 abbrev pub message_passing : Program
 message_passing = record { words = 2; threads = (Store 0 ∷ Store 1 ∷ []) ∷ (Load 1 ∷ Load 0 ∷ []) ∷ [] }
+
+-- the same with a fence between the two operations of each thread
+abbrev pub message_passing_fences : Program
+message_passing_fences = record { words = 2; threads = (Store 0 ∷ Fence ∷ Store 1 ∷ []) ∷ (Load 1 ∷ Fence ∷ Load 0 ∷ []) ∷ [] }
 
 -- a load behind two stores of its own thread
 abbrev pub own_stores : Program

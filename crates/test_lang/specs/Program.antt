@@ -1,5 +1,5 @@
 -- A test as plain data: a number of words, and threads, each a list of operations. Its operations, numbered in text order, are its nodes.
-use Rattle.std.specs.Prelude.{ℕ, suc, ◌<◌, List, [], ◌∷◌, ◌++◌, map, take, length, sum_by, Bool, false, Option, Some, None, slice_get, slice_index_or}
+use Rattle.std.specs.Prelude.{ℕ, suc, ◌<◌, ◌≤◌, All, List, [], ◌∷◌, ◌++◌, map, take, length, sum_by, Bool, false, Option, Some, None, slice_get, slice_index_or}
 use Rattle.std.specs.Option.{option_map}
 use Rattle.orders.specs.Orders.{nodes_below}
 use Rattle.test_lang.specs.declared.op.Op.{Op}
@@ -16,7 +16,7 @@ empty_program words = record { words = words; threads = [] }
 abbrev pub with_thread : Program → Program
 with_thread p = record { words = p.words; threads = p.threads ++ [] ∷ [] }
 
--- the threads, the last of which has the operation at its end
+-- the threads, the last of which, if there is one, has the operation at its end
 abbrev pub with_last : List (List Op) → Op → List (List Op)
 with_last [] op = []
 with_last (ops ∷ []) op = (ops ++ op ∷ []) ∷ []
@@ -25,7 +25,7 @@ with_last (ops ∷ next ∷ more) op = ops ∷ with_last (next ∷ more) op
 abbrev pub with_op : Program → Op → Program
 with_op p op = record { words = p.words; threads = with_last p.threads op }
 
--- the operations of the threads, each with its thread's number, where the first of them has the number k
+-- the operations of the threads, each with its thread's number, where the first thread has the number k
 abbrev pub nodes_from : ℕ → List (List Op) → List (ℕ × Op)
 nodes_from k [] = []
 nodes_from k (ops ∷ more) = map (λ op. (k, op)) ops ++ nodes_from (suc k) more
@@ -41,17 +41,19 @@ op_count p = length (nodes p)
 abbrev pub all_nodes : Program → List ℕ
 all_nodes p = nodes_below (op_count p)
 
--- the operation of a node, and the number of its thread
+-- the operation of a node
 abbrev pub op_at : Program → ℕ → Option Op
 op_at p n = option_map (λ node. node.1) (slice_get (nodes p) n)
 
+-- the number of its thread
 abbrev pub thread_at : Program → ℕ → Option ℕ
 thread_at p n = option_map (λ node. node.0) (slice_get (nodes p) n)
 
--- how many operations a thread has, and the node that its first one has or would have
+-- how many operations a thread has
 abbrev pub thread_length : Program → ℕ → ℕ
 thread_length p t = length (slice_index_or p.threads t [])
 
+-- the node that its first operation has or would have
 abbrev pub first_node : Program → ℕ → ℕ
 first_node p t = sum_by length (take t p.threads)
 
@@ -60,6 +62,14 @@ abbrev pub HasWord : Program → Op → Type 0
 HasWord p (Load word) = word < p.words
 HasWord p (Store word) = word < p.words
 HasWord p Fence = Unit {0}
+
+-- The limits of a test. A text of a test has at least one thread; a test that is being made may have none.
+pub record IsWithinLimits (p : Program) : Type 0 where
+  pub some_word : 1 ≤ p.words
+  pub words : p.words ≤ 256
+  pub threads : length p.threads ≤ 16
+  pub operations : op_count p ≤ 2048
+  pub words_of : All (λ node. HasWord p node.1) (nodes p)
 
 -- Tests of nodes: what a thread and its operation pass. A number that is no node passes none.
 

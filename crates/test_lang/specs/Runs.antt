@@ -1,6 +1,7 @@
 -- Runs, and the candidates of loads.
 use Rattle.std.specs.Prelude.{◌≡◌, ℕ, ◌^◌, ◌<◌, List, [], ◌∷◌, map, filter, find, length, Bool, not, ◌&&◌, ◌==◌, nat_lt, Option, None, slice_index, All}
 use Rattle.std.specs.List.{list_any}
+use Rattle.std.specs.Option.{option_map}
 use Rattle.test_lang.specs.Program.{Program, all_nodes}
 use Rattle.test_lang.specs.Values.{is_store_at, same_thread, one_word, value_of, rank_of, load_count, load_nodes}
 
@@ -9,7 +10,7 @@ pub record IsRun (p : Program) (run : List ℕ) : Type 0 where
   pub whole : length run ≡ load_count p
   pub values : All (λ value. value < 2 ^ 32) run
 
--- the value that the load gives in the run
+-- the value that a load gives in the run
 abbrev pub value_read : Program → List ℕ → ℕ → ℕ
 value_read p run load = slice_index run (rank_of p load)
 
@@ -23,9 +24,13 @@ last_or_0 [] = 0
 last_or_0 (x ∷ []) = x
 last_or_0 (x ∷ y ∷ more) = last_or_0 (y ∷ more)
 
--- the value of the last earlier store to the load's word in its own thread, or the initial value
+-- an earlier store to the load's word in its own thread
+abbrev pub own_earlier : Program → ℕ → ℕ → Bool
+own_earlier p load n = writes_for p load n && (same_thread p load n && nat_lt n load)
+
+-- the value of the last of them, or the initial value 0 where there is none
 abbrev pub base : Program → ℕ → ℕ
-base p load = last_or_0 (map (value_of p) (filter (λ n. writes_for p load n && (same_thread p load n && nat_lt n load)) (all_nodes p)))
+base p load = last_or_0 (map (value_of p) (filter (own_earlier p load) (all_nodes p)))
 
 -- the values of all stores to the load's word in other threads, in node order
 abbrev pub others : Program → ℕ → List ℕ
@@ -43,6 +48,11 @@ reads_candidate p run load = list_any (λ candidate. candidate == value_read p r
 abbrev pub first_outside : Program → List ℕ → Option ℕ
 first_outside p run = find (λ load. not (reads_candidate p run load)) (load_nodes p)
 
+-- that load, and the value that it gives
+abbrev pub outside_of : Program → List ℕ → Option (ℕ × ℕ)
+outside_of p run = option_map (λ load. (load, value_read p run load)) (first_outside p run)
+
 -- A run is inside where each of its values is a candidate's.
-abbrev pub IsInside : Program → List ℕ → Type 0
-IsInside p run = first_outside p run ≡ None
+pub record IsInside (p : Program) (run : List ℕ) : Type 0 where
+  pub is_run : IsRun p run
+  pub none_outside : first_outside p run ≡ None

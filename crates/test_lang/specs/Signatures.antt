@@ -4,12 +4,12 @@ use Rattle.std.specs.List.{flat_map}
 use Rattle.orders.specs.Orders.{nodes_below}
 use Rattle.test_lang.specs.Program.{Program}
 use Rattle.test_lang.specs.Values.{thread_loads}
-use Rattle.test_lang.specs.Runs.{IsRun, IsInside, candidates, value_read}
+use Rattle.test_lang.specs.Runs.{IsInside, candidates, value_read}
 
 abbrev pub candidate_count : Program → ℕ → ℕ
 candidate_count p load = length (candidates p load)
 
--- the place of the value that is read among the load's candidates, counted from 0
+-- the place, counted from 0, of the value that is read among the load's candidates, where it is one of them
 abbrev pub place : Program → List ℕ → ℕ → ℕ
 place p run load = unwrap_or (position (λ candidate. candidate == value_read p run load) (candidates p load)) 0
 
@@ -17,7 +17,8 @@ abbrev pub product : List ℕ → ℕ
 product [] = 1
 product (n ∷ ns) = n * product ns
 
--- Groups: loads in a row, each group the longest whose product of counts is at most 2^64.
+-- Groups: loads in a row, each group the longest whose product of counts is at most 2^64. So with the counts 2 and 2^63 two loads make one group,
+-- and with 2 and 2^63 + 1 two groups. The first load of a group needs no test, since no load has more than 2048 candidates.
 
 abbrev pub put_first : ℕ → List (List ℕ) → List (List ℕ)
 put_first load [] = (load ∷ []) ∷ []
@@ -39,24 +40,23 @@ groups_of count (load ∷ loads) = put_first load (groups_after count (count loa
 abbrev pub groups : Program → List (List ℕ)
 groups p = flat_map (λ t. groups_of (candidate_count p) (thread_loads p t)) (nodes_below (length p.threads))
 
--- the product of a group's counts: its words are the numbers below
+-- the product of a group's counts: a word of the group is a number below it
 abbrev pub group_product : Program → List ℕ → ℕ
 group_product p group = product (map (candidate_count p) group)
 
--- the weight of the k-th load of a group: the product of the counts before it
+-- the weight of a group's load at the place k, counted from 0: the product of the counts before it
 abbrev pub weight : Program → List ℕ → ℕ → ℕ
 weight p group k = group_product p (take k group)
 
 -- the word of a group: the sum of each load's place times its weight
-abbrev pub word : Program → List ℕ → List ℕ → ℕ
-word p run group = sum_by (λ k. place p run (slice_index group k) * weight p group k) (nodes_below (length group))
+abbrev pub group_word : Program → List ℕ → List ℕ → ℕ
+group_word p run group = sum_by (λ k. place p run (slice_index group k) * weight p group k) (nodes_below (length group))
 
--- The signature of a run: a word for each group.
+-- The signature of a run: a word of 64 bits for each group.
 abbrev pub signature : Program → List ℕ → List ℕ
-signature p run = map (word p run) (groups p)
+signature p run = map (group_word p run) (groups p)
 
--- The words mean the run.
+-- The words mean the run: it is inside, and they are its signature.
 pub record Means (p : Program) (words run : List ℕ) : Type 0 where
-  pub is_run : IsRun p run
   pub inside : IsInside p run
   pub words_are : signature p run ≡ words

@@ -31,7 +31,7 @@ same_word (Load word) b = is_of word b
 same_word (Store word) b = is_of word b
 same_word Fence b = false
 
--- the same of nodes
+-- the same tests of nodes
 
 abbrev pub is_load_at : Program → ℕ → Bool
 is_load_at p n = at_node (λ node. is_load node.1) p n
@@ -45,10 +45,11 @@ same_thread p a b = at_nodes (λ first second. first.0 == second.0) p a b
 abbrev pub one_word : Program → ℕ → ℕ → Bool
 one_word p a b = at_nodes (λ first second. same_word first.1 second.1) p a b
 
--- how many loads and stores a test has
+-- how many loads a test has
 abbrev pub load_count : Program → ℕ
 load_count p = count_by (λ node. is_load node.1) (nodes p)
 
+-- how many stores it has
 abbrev pub store_count : Program → ℕ
 store_count p = count_by (λ node. is_store node.1) (nodes p)
 
@@ -60,9 +61,10 @@ rank_of p n = count_by (λ node. is_load node.1) (take n (nodes p))
 abbrev pub value_of : Program → ℕ → ℕ
 value_of p n = count_by (λ node. is_store node.1) (take n (nodes p)) + 1
 
--- all loads, rising, and those of one thread
+-- all loads, rising
 abbrev pub load_nodes : Program → List ℕ
 load_nodes p = filter (is_load_at p) (all_nodes p)
 
+-- the loads of one thread, rising
 abbrev pub thread_loads : Program → ℕ → List ℕ
 thread_loads p t = filter (λ n. at_node (λ node. (node.0 == t) && is_load node.1) p n) (all_nodes p)

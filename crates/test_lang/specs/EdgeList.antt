@@ -1,0 +1,37 @@
+-- The edges of a run as a list, told by a test of two nodes.
+use Rattle.std.specs.Prelude.{ℕ, List, map, filter, Bool, not, ◌&&◌, ◌||◌, ◌==◌, nat_lt}
+use Rattle.std.specs.List.{flat_map, list_any}
+use Rattle.test_lang.specs.declared.op.MemModel.{MemModel}
+use Rattle.test_lang.specs.Program.{Program, all_nodes}
+use Rattle.test_lang.specs.Values.{is_load_at, is_store_at, same_thread, one_word, value_of}
+use Rattle.test_lang.specs.Kept.{is_kept}
+use Rattle.test_lang.specs.Runs.{value_read}
+
+abbrev pub is_reads_from : Program → List ℕ → ℕ → ℕ → Bool
+is_reads_from p run a b = (is_store_at p a && is_load_at p b) && ((value_read p run b == value_of p a) && not (same_thread p a b))
+
+abbrev pub is_before_later_of : Program → List ℕ → ℕ → ℕ → ℕ → Bool
+is_before_later_of p run a b store =
+    (is_load_at p a && (is_store_at p store && (value_read p run a == value_of p store)))
+    && ((is_store_at p b && same_thread p store b) && (nat_lt store b && one_word p store b))
+
+abbrev pub is_before_later : Program → List ℕ → ℕ → ℕ → Bool
+is_before_later p run a b = list_any (is_before_later_of p run a b) (all_nodes p)
+
+abbrev pub is_before_any : Program → List ℕ → ℕ → ℕ → Bool
+is_before_any p run a b = (is_load_at p a && (value_read p run a == 0)) && (is_store_at p b && one_word p a b)
+
+-- whether an edge leads from a to b
+abbrev pub is_edge : MemModel → Program → List ℕ → ℕ → ℕ → Bool
+is_edge m p run a b = is_kept m p a b || (is_reads_from p run a b || (is_before_later p run a b || is_before_any p run a b))
+
+-- the pairs of nodes that pass a test, rising by the first and then by the second
+abbrev pub pairs_where : (ℕ → ℕ → Bool) → Program → List (ℕ × ℕ)
+pairs_where test p = flat_map (λ a. map (λ b. (a, b)) (filter (test a) (all_nodes p))) (all_nodes p)
+
+abbrev pub kept_list : MemModel → Program → List (ℕ × ℕ)
+kept_list m p = pairs_where (is_kept m p) p
+
+-- all edges of a run
+abbrev pub edge_list : MemModel → Program → List ℕ → List (ℕ × ℕ)
+edge_list m p run = pairs_where (is_edge m p run) p
