@@ -1,0 +1,21 @@
+//! What lies outside of the checker: where bytes come from, where they go, and the gate that workers pass.
+//!
+//! A [`Source`] and a [`Sink`] count their faults. Code that is generic over them can't raise such a count, so a
+//! contract that ties an answer to a count that rose refuses a body that gives up by itself.
+#![tactic(auto)]
+
+mod calls;
+mod gate;
+mod mem_sink;
+mod mem_source;
+mod sink;
+mod source;
+
+pub use gate::{Gate, OpenGate};
+pub use mem_sink::MemSink;
+pub use mem_source::MemSource;
+pub use sink::{Put, Sink};
+pub use source::{Source, Take};
+
+#[cfg(test)]
+mod tests;
