@@ -2,3 +2,4 @@ pub mod Members
 pub mod Below
 pub mod LeastOrders
 pub mod NextNodes
+pub mod FewEdges

@@ -1,8 +1,10 @@
 //! Paths, orders and cycles of nodes under any set of edges: definitions that the crates above share, and their laws.
 #![tactic(auto)]
 
-ghost use Rattle.std.specs.Prelude.{◌≡◌, ℕ, List};
-ghost use Rattle.orders.specs.Orders.{HasNoOrder, IsLeastOrder};
+ghost use Rattle.std.specs.Prelude.{◌≡◌, ◌↔◌, ℕ, List};
+ghost use Rattle.orders.specs.Orders.{HasNoOrder, IsLeastOrder, IsOrder};
+ghost use Rattle.orders.specs.Paths.{Reach};
+ghost use Rattle.orders.specs.Reductions.{IsAmong, IsReaching, IsWithin};
 ghost use Rattle.orders.specs.Choices.{IsStuck, TakesNext};
 
 /// A set of edges between nodes, for the laws below.
@@ -23,4 +25,14 @@ pub fn next_nodes_are_least<R: Relation>()
 /// Where nodes are left and none of them has all its predecessors placed, there is no order.
 pub fn stuck_nodes_have_no_order<R: Relation>()
     ensures { (nodes placed : List ℕ) → IsStuck R.edges nodes placed → HasNoOrder R.edges nodes }
+{}
+
+/// Few edges that are among all, and reach each of them, have the same reach, the same orders and the same least order.
+pub fn few_edges_order_as_all<E: Relation, F: Relation>()
+    requires among { IsAmong F.edges E.edges }
+    requires reaching { IsReaching F.edges E.edges }
+    ensures reach { (a b : ℕ) → Reach E.edges a b ↔ Reach F.edges a b }
+    ensures orders { (nodes order : List ℕ) → IsWithin E.edges nodes → IsOrder E.edges nodes order ↔ IsOrder F.edges nodes order }
+    ensures least { (nodes order : List ℕ) → IsWithin E.edges nodes → IsLeastOrder E.edges nodes order ↔ IsLeastOrder F.edges nodes order }
+    ensures none { (nodes : List ℕ) → IsWithin E.edges nodes → HasNoOrder E.edges nodes ↔ HasNoOrder F.edges nodes }
 {}
