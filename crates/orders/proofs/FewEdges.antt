@@ -29,13 +29,13 @@ pub reach_by_all : (E F : ℕ → ℕ → Type 0) → IsAmong F E → (a b : ℕ
 reach_by_all E F among a b p = (p.0, linked_among E F among a p.0 b p.1)
 
 -- the place of a node in an order
-place_of : (E : ℕ → ℕ → Type 0) (nodes order : List ℕ) → IsOrder E nodes order → (x : ℕ) → Contains nodes x → (k : ℕ) × (k < length order) × (get_or order k 0 ≡ x)
+pub place_of : (E : ℕ → ℕ → Type 0) (nodes order : List ℕ) → IsOrder E nodes order → (x : ℕ) → Contains nodes x → (k : ℕ) × (k < length order) × (get_or order k 0 ≡ x)
 place_of E nodes order o x h =
     let at = (o.same_nodes x).1 h in
     (at.0, at.1, get_or_default order at.0 0 x at.1 ∙ at.2)
 
 -- a path leads forward in an order
-linked_forward : (F : ℕ → ℕ → Type 0) (nodes order : List ℕ) → IsOrder F nodes order → IsWithin F nodes → (i : ℕ) (between : List ℕ) (j : ℕ) → i < length order → j < length order →
+pub linked_forward : (F : ℕ → ℕ → Type 0) (nodes order : List ℕ) → IsOrder F nodes order → IsWithin F nodes → (i : ℕ) (between : List ℕ) (j : ℕ) → i < length order → j < length order →
     Linked F (get_or order i 0) between (get_or order j 0) → i < j
 linked_forward F nodes order o within i [] j li lj p = o.forward i j li lj p
 linked_forward F nodes order o within i (x ∷ between) j li lj p =

@@ -1,8 +1,9 @@
 //! Paths, orders and cycles of nodes under any set of edges: definitions that the crates above share, and their laws.
 #![tactic(auto)]
 
-ghost use Rattle.std.specs.Prelude.{◌≡◌, ◌↔◌, ℕ, List};
-ghost use Rattle.orders.specs.Orders.{HasNoOrder, IsLeastOrder, IsOrder};
+ghost use Rattle.std.specs.Prelude.{◌≡◌, ◌≢◌, ◌↔◌, ◌⊎◌, ℕ, List, Bool, IsTrue, AllPairs};
+ghost use Rattle.orders.specs.Cycles.{IsOnCycle};
+ghost use Rattle.orders.specs.Orders.{HasNoOrder, IsAcyclic, IsLeastOrder, IsOrder};
 ghost use Rattle.orders.specs.Paths.{Reach};
 ghost use Rattle.orders.specs.Reductions.{IsAmong, IsReaching, IsWithin};
 ghost use Rattle.orders.specs.Choices.{IsStuck, TakesNext};
@@ -35,4 +36,20 @@ pub fn few_edges_order_as_all<E: Relation, F: Relation>()
     ensures orders { (nodes order : List ℕ) → IsWithin E.edges nodes → IsOrder E.edges nodes order ↔ IsOrder F.edges nodes order }
     ensures least { (nodes order : List ℕ) → IsWithin E.edges nodes → IsLeastOrder E.edges nodes order ↔ IsLeastOrder F.edges nodes order }
     ensures none { (nodes : List ℕ) → IsWithin E.edges nodes → HasNoOrder E.edges nodes ↔ HasNoOrder F.edges nodes }
+{}
+
+/// A node lies on a cycle exactly where a path leads from it back to it.
+pub fn cycles_are_paths_back<R: Relation>()
+    ensures { (node : ℕ) → IsOnCycle R.edges node ↔ Reach R.edges node node }
+{}
+
+/// A cycle leaves no order of nodes that have the ends of all edges among them.
+pub fn a_cycle_leaves_no_order<R: Relation>()
+    ensures { (nodes : List ℕ) → IsWithin R.edges nodes → (node : ℕ) → IsOnCycle R.edges node → HasNoOrder R.edges nodes }
+{}
+
+/// Nodes have an order, or some node lies on a cycle, where a test tells the edges.
+pub fn order_or_cycle()
+    ensures { (edge : ℕ → ℕ → Bool) (nodes : List ℕ) → AllPairs (λ a b. a ≢ b) nodes
+        → IsAcyclic (λ a b. IsTrue (edge a b)) nodes ⊎ ((node : ℕ) × IsOnCycle (λ a b. IsTrue (edge a b)) node) }
 {}
