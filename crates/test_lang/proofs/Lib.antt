@@ -2,3 +2,10 @@ pub mod EdgeTests
 pub mod EdgeLists
 pub mod OrderTests
 pub mod Examples
+pub mod Places
+pub mod Ranks
+pub mod Threads
+pub mod Growth
+pub mod Rows
+pub mod Tabulated
+pub mod Steps

@@ -1,5 +1,6 @@
 pub mod Program
 pub mod Values
+pub mod Tables
 pub mod Kept
 pub mod Runs
 pub mod Signatures

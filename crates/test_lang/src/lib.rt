@@ -4,3 +4,4 @@
 pub mod edges;
 pub mod litmus;
 pub mod op;
+pub mod test;

@@ -1,0 +1,135 @@
+-- The tables of a test that grew.
+use Rattle.std.proofs.Common.{◌≡◌, ◌∙◌, ℕ, suc, ◌+◌, ◌<◌, ◌≤◌, List, [], ◌∷◌, ◌++◌, length, cond, Some, refl, ap, arith, sym, subst, ⊎_elim, append-nil, length-append}
+use Rattle.std.specs.Prelude.{slice_get}
+use Rattle.std.proofs.lemmas.Bool.{cases_lt}
+use Rattle.std.proofs.lemmas.List.{get_or_append_left, get_or_push}
+use Rattle.std.proofs.lemmas.Option.{slice_get_within}
+use Rattle.test_lang.specs.declared.op.Op.{Op}
+use Rattle.test_lang.specs.declared.test.Row.{Row}
+use Rattle.test_lang.specs.Program.{Program, nodes, op_count, with_thread, with_op, HasWord}
+use Rattle.test_lang.specs.Values.{is_load, is_store, load_count, load_nodes, store_count}
+use Rattle.test_lang.specs.Tables.{Describes, Tabulates, store_nodes}
+use Rattle.test_lang.proofs.Places.{load_node, passing, passing-append, passing_all, places, slice_get-append_left, slice_get_cases_end, slice_get_end, store_node}
+use Rattle.test_lang.proofs.Ranks.{length-load_nodes, length-store_nodes, load_count-le, store_count-le}
+use Rattle.test_lang.proofs.Threads.{first_node_all}
+use Rattle.test_lang.proofs.Growth.{HasWord-words, first_node-with_op, first_node-with_thread, load_nodes_push, nodes-with_op, nodes-with_thread, store_nodes_push, threads-with_op}
+
+-- a row describes its node still
+describes_still : (p q : Program) (more : List (ℕ × Op)) → nodes q ≡ nodes p ++ more → length p.threads ≤ length q.threads → p.words ≡ q.words → (node : ℕ) (row : Row) → Describes p node row
+    → Describes q node row
+describes_still p q more e threads words node row d =
+    let within = slice_get_within (nodes p) node (row.thread, row.op) d.is_node in
+    let short : node ≤ length (nodes p) = omega (arith, within) in
+    let stores : passing store_node (nodes q) node ≡ passing store_node (nodes p) node = ap (λ xs. passing store_node xs node) e ∙ passing-append store_node (nodes p) more node short in
+    let loads : passing load_node (nodes q) node ≡ passing load_node (nodes p) node = ap (λ xs. passing load_node xs node) e ∙ passing-append load_node (nodes p) more node short in
+    record {
+      is_node = ap (λ xs. slice_get xs node) e ∙ slice_get-append_left (nodes p) more node (row.thread, row.op) d.is_node;
+      has_value = d.has_value ∙ ap (λ (n : ℕ). n + 1) (sym stores);
+      has_rank = d.has_rank ∙ sym loads;
+      has_thread = let lt = d.has_thread in omega (arith, lt, threads);
+      has_word = HasWord-words p q row.op words d.has_word;
+    }
+
+-- the row of a node that was added
+record FitsEnd (p : Program) (row : Row) : Type 0 where
+  last_thread : suc row.thread ≡ length p.threads
+  next_value : row.value ≡ store_count p + 1
+  next_rank : row.rank ≡ load_count p
+  some_word : HasWord p row.op
+
+describes_last : (p q : Program) (row : Row) → nodes q ≡ nodes p ++ (row.thread, row.op) ∷ [] → length p.threads ≡ length q.threads → p.words ≡ q.words → FitsEnd p row → Describes q (op_count p) row
+describes_last p q row e threads words fits =
+    let here : ℕ × Op = (row.thread, row.op) in
+    let stores : passing store_node (nodes q) (op_count p) ≡ store_count p =
+    ap (λ xs. passing store_node xs (op_count p)) e ∙ passing-append store_node (nodes p) (here ∷ []) (op_count p) (omega arith) ∙ passing_all store_node (nodes p) in
+    let loads : passing load_node (nodes q) (op_count p) ≡ load_count p =
+    ap (λ xs. passing load_node xs (op_count p)) e ∙ passing-append load_node (nodes p) (here ∷ []) (op_count p) (omega arith) ∙ passing_all load_node (nodes p) in
+    record {
+      is_node = ap (λ xs. slice_get xs (op_count p)) e ∙ slice_get_end (nodes p) here (op_count p) refl;
+      has_value = fits.next_value ∙ ap (λ (n : ℕ). n + 1) (sym stores);
+      has_rank = fits.next_rank ∙ sym loads;
+      has_thread = let last = fits.last_thread in omega (arith, last, threads);
+      has_word = HasWord-words p q row.op words fits.some_word;
+    }
+
+pub tabulates-with_thread : (p : Program) (rows : List Row) (loads stores firsts : List ℕ) (first : ℕ) → Tabulates p rows loads stores firsts → length p.threads < 16 → first ≡ length rows
+    → Tabulates (with_thread p) rows loads stores (firsts ++ first ∷ [])
+tabulates-with_thread p rows loads stores firsts first t room is_first =
+    let q = with_thread p in
+    let same : nodes q ≡ nodes p = nodes-with_thread p in
+    let count : op_count q ≡ op_count p = ap length same in
+    let one_row_each = t.one_row_each in
+    let few_ops = t.few_ops in
+    let one_first_each = t.one_first_each in
+    let threads : length q.threads ≡ length p.threads + 1 = length-append p.threads ([] ∷ []) in
+    let firsts_more : length (firsts ++ first ∷ []) ≡ length firsts + 1 = length-append firsts (first ∷ []) in
+    record {
+      some_words = t.some_words;
+      few_words = t.few_words;
+      few_threads = omega (arith, room, threads);
+      few_ops = omega (arith, few_ops, count);
+      one_row_each = omega (arith, one_row_each, count);
+      rows_describe = λ node row e. describes_still p q [] (same ∙ sym (append-nil (nodes p))) (omega (arith, threads)) refl node row (t.rows_describe node row e);
+      loads_are = t.loads_are ∙ ap (λ xs. places load_node xs (length xs)) (sym same);
+      stores_are = t.stores_are ∙ ap (λ xs. places store_node xs (length xs)) (sym same);
+      one_first_each = omega (arith, one_first_each, threads, firsts_more);
+      firsts_are = λ thread h.
+          ⊎_elim
+          (λ (old : thread < length firsts).
+          get_or_append_left firsts (first ∷ []) 0 thread old ∙ t.firsts_are thread old ∙ sym (first_node-with_thread p thread (omega (arith, old, one_first_each))))
+          (λ (new : length firsts ≤ thread).
+          let is_last : length firsts ≡ thread = omega (arith, new, h, firsts_more) in
+          get_or_push firsts first 0 thread is_last ∙ is_first ∙ one_row_each ∙ sym (first_node_all p thread (omega (arith, is_last, one_first_each)))
+          ∙ sym (first_node-with_thread p thread (omega (arith, is_last, one_first_each))))
+          (cases_lt thread (length firsts));
+    }
+
+pub tabulates-with_op : (p : Program) (rows : List Row) (loads stores firsts : List ℕ) (row : Row) → Tabulates p rows loads stores firsts → suc row.thread ≡ length p.threads → row.value ≡ length stores + 1
+    → row.rank ≡ length loads → op_count p < 2048 → HasWord p row.op
+    → Tabulates (with_op p row.op) (rows ++ row ∷ []) (loads ++ cond (is_load row.op) (length rows ∷ []) []) (stores ++ cond (is_store row.op) (length rows ∷ []) []) firsts
+tabulates-with_op p rows loads stores firsts row t last value rank room word =
+    let q = with_op p row.op in
+    let grown : nodes q ≡ nodes p ++ (row.thread, row.op) ∷ [] = nodes-with_op p row.op row.thread (sym last) in
+    let count : op_count q ≡ op_count p + 1 = ap length grown ∙ length-append (nodes p) ((row.thread, row.op) ∷ []) in
+    let threads : length q.threads ≡ length p.threads = threads-with_op p row.op in
+    let few_threads = t.few_threads in
+    let one_row_each = t.one_row_each in
+    let one_first_each = t.one_first_each in
+    let stores_now : length stores ≡ store_count p = ap length t.stores_are ∙ length-store_nodes p in
+    let loads_now : length loads ≡ load_count p = ap length t.loads_are ∙ length-load_nodes p in
+    let rows_more : length (rows ++ row ∷ []) ≡ length rows + 1 = length-append rows (row ∷ []) in
+    let fits : FitsEnd p row = record { last_thread = last; next_value = value ∙ ap (λ (n : ℕ). n + 1) stores_now; next_rank = rank ∙ loads_now; some_word = word } in
+    record {
+      some_words = t.some_words;
+      few_words = t.few_words;
+      few_threads = omega (arith, few_threads, threads);
+      few_ops = omega (arith, room, count);
+      one_row_each = omega (arith, one_row_each, count, rows_more);
+      rows_describe = λ node other e.
+          ⊎_elim
+          (λ (old : slice_get rows node ≡ Some other). describes_still p q ((row.thread, row.op) ∷ []) grown (omega (arith, threads)) refl node other (t.rows_describe node other old))
+          (λ (new : (node ≡ length rows) × (row ≡ other)).
+          let place : op_count p ≡ node = sym (new.0 ∙ one_row_each) in
+          subst (λ (n : ℕ). Describes q n other) place (subst (λ (r : Row). Describes q (op_count p) r) new.1 (describes_last p q row grown (sym threads) refl fits)))
+          (slice_get_cases_end rows row node other e);
+      loads_are = ap (λ list. list ++ cond (is_load row.op) (length rows ∷ []) []) t.loads_are ∙ ap (λ (n : ℕ). load_nodes p ++ cond (is_load row.op) (n ∷ []) []) one_row_each
+          ∙ sym (load_nodes_push p q row.thread row.op grown);
+      stores_are = ap (λ list. list ++ cond (is_store row.op) (length rows ∷ []) []) t.stores_are ∙ ap (λ (n : ℕ). store_nodes p ++ cond (is_store row.op) (n ∷ []) []) one_row_each
+          ∙ sym (store_nodes_push p q row.thread row.op grown);
+      one_first_each = omega (arith, one_first_each, threads);
+      firsts_are = λ thread h. t.firsts_are thread h ∙ sym (first_node-with_op p row.op thread (omega (arith, h, one_first_each)));
+    }
+
+-- what the tables count
+
+pub load_total : (p : Program) (rows : List Row) (loads stores firsts : List ℕ) → Tabulates p rows loads stores firsts → length loads ≡ load_count p
+load_total p rows loads stores firsts t = ap length t.loads_are ∙ length-load_nodes p
+
+pub store_total : (p : Program) (rows : List Row) (loads stores firsts : List ℕ) → Tabulates p rows loads stores firsts → length stores ≡ store_count p
+store_total p rows loads stores firsts t = ap length t.stores_are ∙ length-store_nodes p
+
+pub few_loads : (p : Program) (rows : List Row) (loads stores firsts : List ℕ) → Tabulates p rows loads stores firsts → length loads ≤ op_count p
+few_loads p rows loads stores firsts t = let total = load_total p rows loads stores firsts t in let le = load_count-le p in omega (arith, total, le)
+
+pub few_stores : (p : Program) (rows : List Row) (loads stores firsts : List ℕ) → Tabulates p rows loads stores firsts → length stores ≤ op_count p
+few_stores p rows loads stores firsts t = let total = store_total p rows loads stores firsts t in let le = store_count-le p in omega (arith, total, le)

@@ -1,0 +1,22 @@
+use Rattle.std.proofs.Common.{◌∙◌, ap, arith}
+use Rattle.test_lang.specs.Program.{op_count}
+use Rattle.test_lang.specs.Values.{store_count}
+use Rattle.test_lang.proofs.Tabulated.{few_stores, store_total}
+use Rattle.test_lang.proofs.test.Test.stores.Goals as goal
+
+pub overflow_cast-result : goal.overflow_cast-result
+overflow_cast-result c =
+    let few = few_stores _ _ _ _ _ c.self.invariant in
+    let ops = c.self.invariant.few_ops in
+    let len = c.self.inside.store_nodes.ok.0 in
+    omega (arith, few, ops, len)
+
+pub returns-clause-count : goal.returns-clause-count
+returns-clause-count c = c.len.ensures ∙ c.self.inside.store_nodes.ok.0 ∙ store_total _ _ _ _ _ c.self.invariant ∙ ap store_count c.self.view_is
+
+pub returns-clause-few : goal.returns-clause-few
+returns-clause-few c =
+    let few = few_stores _ _ _ _ _ c.self.invariant in
+    let len = c.self.inside.store_nodes.ok.0 in
+    let ops = ap op_count c.self.view_is in
+    omega (arith, few, len, ops)

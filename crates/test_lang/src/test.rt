@@ -1,0 +1,173 @@
+//! A test: threads of operations over a number of words, with tables that answer for each node in constant time.
+ghost use Rattle.std.specs.Prelude.{◌≡◌, ◌+◌, ◌<◌, ◌≤◌, length, OnOk, OnErr, Some};
+ghost use Rattle.test_lang.specs.Program.{empty_program, with_thread, with_op, op_count, op_at, thread_at, first_node, thread_length, HasWord};
+ghost use Rattle.test_lang.specs.Tables.{Describes};
+ghost use Rattle.test_lang.specs.Values.{load_count, store_count};
+
+use crate::op::Op;
+use std::alloc::{AllocError, Global};
+use std::marker::Model;
+
+/// What the accessors answer of one node.
+#[derive(Clone, Copy, Debug, Drop)]
+struct Row {
+    thread: u32,
+    op: Op,
+    /// One more than the number of stores before the node: its value, where it is a store.
+    value: u32,
+    /// The number of loads before the node: its rank, where it is a load.
+    rank: u32,
+}
+
+/// A test: 1 to 256 words, and at most 16 threads of at most 2048 operations in all.
+///
+/// The operations, numbered from 0 in text order, fences included, are its nodes. Loads have ranks from 0, and stores have values from 1,
+/// both in text order.
+#[derive(Debug, Drop)]
+pub struct Test {
+    words: u32,
+    rows: Vec<Row>,
+    load_nodes: Vec<u32>,
+    store_nodes: Vec<u32>,
+    first_nodes: Vec<u32>,
+}
+
+impl Model for Test {
+    ghost use Rattle.std.specs.Prelude.{length};
+    ghost use Rattle.test_lang.specs.Program.{Program};
+    ghost use Rattle.test_lang.specs.Tables.{program_of, Tabulates};
+
+    ghost Value = { Program };
+
+    ghost view = { λ t. program_of t.words (length t.first_nodes.items) t.rows.items };
+
+    ghost invariant = { λ t. Tabulates (program_of t.words (length t.first_nodes.items) t.rows.items) t.rows.items t.load_nodes.items t.store_nodes.items t.first_nodes.items };
+}
+
+impl Test {
+    /// A test without threads. It takes no memory.
+    pub fn new(alloc: Global, words: u32) -> Test
+        requires some { 1 ≤ words }
+        requires few { words ≤ 256 }
+        ensures { result ≡ empty_program words }
+    {
+        Test {
+            words,
+            rows: Vec::new(alloc),
+            load_nodes: Vec::new(alloc),
+            store_nodes: Vec::new(alloc),
+            first_nodes: Vec::new(alloc),
+        }
+    }
+
+    /// Adds an empty thread at the end. An error is want of memory.
+    pub fn add_thread(&mut self) -> Result<(), AllocError>
+        requires { length self.old.threads < 16 }
+        ensures ok { OnOk result (self.new ≡ with_thread self.old) }
+        ensures err { OnErr result (self.new ≡ self.old) }
+    {
+        self.first_nodes.push(self.rows.len() as u32)?;
+        Ok(())
+    }
+
+    /// Adds the operation at the end of the last thread. An error is want of memory.
+    pub fn add_op(&mut self, op: Op) -> Result<(), AllocError>
+        requires thread { 0 < length self.old.threads }
+        requires room { op_count self.old < 2048 }
+        requires word { HasWord self.old op }
+        ensures ok { OnOk result (self.new ≡ with_op self.old op) }
+        ensures err { OnErr result (self.new ≡ self.old) }
+    {
+        let node = self.rows.len() as u32;
+        let row = Row {
+            thread: self.first_nodes.len() as u32 - 1,
+            op,
+            value: self.store_nodes.len() as u32 + 1,
+            rank: self.load_nodes.len() as u32,
+        };
+        self.rows.reserve(1)?;
+        match op {
+            Op::Load { .. } => self.load_nodes.push(node)?,
+            Op::Store { .. } => self.store_nodes.push(node)?,
+            Op::Fence => {}
+        }
+        self.rows.push(row).unwrap();
+        Ok(())
+    }
+
+    /// The number of words.
+    pub fn words(&self) -> u32
+        ensures count { result ≡ self.now.words }
+        ensures some { 1 ≤ result }
+        ensures few { result ≤ 256 }
+    {
+        self.words
+    }
+
+    /// The number of threads.
+    pub fn threads(&self) -> u32
+        ensures count { result ≡ length self.now.threads }
+        ensures few { result ≤ 16 }
+    {
+        self.first_nodes.len() as u32
+    }
+
+    /// The number of operations.
+    pub fn ops(&self) -> u32
+        ensures count { result ≡ op_count self.now }
+        ensures few { result ≤ 2048 }
+    {
+        self.rows.len() as u32
+    }
+
+    /// The number of loads.
+    pub fn loads(&self) -> u32
+        ensures count { result ≡ load_count self.now }
+        ensures few { result ≤ op_count self.now }
+        ensures fits { op_count self.now ≤ 2048 }
+    {
+        self.load_nodes.len() as u32
+    }
+
+    /// The number of stores.
+    pub fn stores(&self) -> u32
+        ensures count { result ≡ store_count self.now }
+        ensures few { result ≤ op_count self.now }
+        ensures fits { op_count self.now ≤ 2048 }
+    {
+        self.store_nodes.len() as u32
+    }
+
+    fn row(&self, node: u32) -> Row
+        requires { node < op_count self.now }
+        ensures { Describes self.now node result }
+    {
+        self.rows[node as usize]
+    }
+
+    /// The operation of a node.
+    pub fn op(&self, node: u32) -> Op
+        requires { node < op_count self.now }
+        ensures found { op_at self.now node ≡ Some result }
+        ensures word { HasWord self.now result }
+    {
+        self.row(node).op
+    }
+
+    /// The thread of a node.
+    pub fn thread_of(&self, node: u32) -> u32
+        requires { node < op_count self.now }
+        ensures found { thread_at self.now node ≡ Some result }
+        ensures in_range { result < length self.now.threads }
+    {
+        self.row(node).thread
+    }
+
+    /// The node that the thread's first operation has or would have.
+    pub fn first_of(&self, thread: u32) -> u32
+        requires { thread < length self.now.threads }
+        ensures { result ≡ first_node self.now thread }
+    {
+        self.first_nodes[thread as usize]
+    }
+}
