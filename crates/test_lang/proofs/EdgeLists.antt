@@ -1,8 +1,6 @@
 -- The list of edges has exactly the edges.
-use Rattle.std.proofs.Common.{◌≡◌, ◌⊎◌, ℕ, List, [], ◌∷◌, Bool, true, false, map, inl, inr, Contains, subst, sym, ap, refl, cond}
+use Rattle.std.proofs.Common.{ℕ, List, map, Contains, subst}
 use Rattle.std.specs.Prelude.{filter}
-use Rattle.std.specs.List.{flat_map}
-use Rattle.std.proofs.lemmas.List.Elements.{Contains-append_left, Contains-append_right, Contains-append_cases}
 use Rattle.orders.proofs.Below.{has-below}
 use Rattle.orders.proofs.Members.{Contains-filter, Contains-filter_back, Contains-map, Contains-map_back, Contains-flat_map, Contains-flat_map_back}
 use Rattle.test_lang.specs.declared.op.MemModel.{MemModel}

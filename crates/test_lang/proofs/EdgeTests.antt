@@ -19,7 +19,7 @@ use Rattle.test_lang.specs.EdgeList.{is_reads_from, is_before_later_of, is_befor
 decides_itself : (b : Bool) → Decides b (IsTrue b)
 decides_itself b = (λ h. h, λ h. h)
 
-not-true : (b : Bool) → not b ≡ true → b ≡ false
+pub not-true : (b : Bool) → not b ≡ true → b ≡ false
 not-true true h = absurd cc
 not-true false h = cc
 

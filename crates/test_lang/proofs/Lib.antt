@@ -9,3 +9,4 @@ pub mod Growth
 pub mod Rows
 pub mod Tabulated
 pub mod Steps
+pub mod CandidateKinds

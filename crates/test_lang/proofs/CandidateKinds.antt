@@ -1,0 +1,115 @@
+-- What the candidates of a load are: the last own store before it or the initial value, and the stores of other threads.
+use Rattle.std.proofs.Common.{◌≡◌, ℕ, zero, suc, ◌<◌, List, [], ◌∷◌, ◌++◌, Bool, true, false, not, ◌&&◌, cond, map, Contains, inl, inr, arith, refl, sym, ap, subst, ◌∙◌, None, Some, append-nil}
+use Rattle.std.specs.Prelude.{filter, find, ◌==◌, nat_lt}
+use Rattle.std.specs.List.{list_any}
+use Rattle.std.proofs.lemmas.List.{map-append}
+use Rattle.std.proofs.lemmas.List.Elements.{filter-append, Decides-contains}
+use Rattle.std.proofs.lemmas.Bool.{cases_eq}
+use Rattle.std.proofs.lemmas.Bool.Decides.{Decides-eqb, Decides-by_or}
+use Rattle.orders.specs.Orders.{nodes_below}
+use Rattle.orders.proofs.Below.{has-below}
+use Rattle.orders.proofs.Members.{Contains-nil, Contains-cons_cases, Contains-filter, Contains-filter_back, Contains-map_back}
+use Rattle.test_lang.specs.Program.{Program, op_count, all_nodes}
+use Rattle.test_lang.specs.Values.{is_load, is_store, is_load_at, is_store_at, same_thread, one_word, value_of, load_nodes}
+use Rattle.test_lang.specs.Runs.{last_or_0, own_earlier, writes_for, base, others, candidates, value_read, reads_candidate, IsInside}
+use Rattle.test_lang.proofs.EdgeTests.{at_node-below, not-true}
+
+last_or_0-push : (xs : List ℕ) (x : ℕ) → last_or_0 (xs ++ x ∷ []) ≡ x
+last_or_0-push [] x = refl
+last_or_0-push (y ∷ []) x = refl
+last_or_0-push (y ∷ z ∷ zs) x = last_or_0-push (z ∷ zs) x
+
+-- what the last number below n that passes gives, or 0 where none passes
+pub data LastBelow (test : ℕ → Bool) (f : ℕ → ℕ) (n : ℕ) (value : ℕ) : Type 0 where
+  nothing : value ≡ 0 → ((k : ℕ) → k < n → test k ≡ false) → LastBelow test f n value
+  last : (w : ℕ) → w < n → test w ≡ true → f w ≡ value → ((k : ℕ) → w < k → k < n → test k ≡ false) → LastBelow test f n value
+
+none_more : (test : ℕ → Bool) (n : ℕ) → test n ≡ false → ((k : ℕ) → k < n → test k ≡ false) → (k : ℕ) → k < suc n → test k ≡ false
+none_more test n e rest k lt = elim (cases_eq k n) [ inl same ↦ subst (λ (z : ℕ). test z ≡ false) (sym same) e | inr other ↦ rest k (omega (arith, lt, other)) ]
+
+last_more : (test : ℕ → Bool) (f : ℕ → ℕ) (n : ℕ) (value : ℕ) → test n ≡ false → LastBelow test f n value → LastBelow test f (suc n) value
+last_more test f n value e (nothing z rest) = nothing z (none_more test n e rest)
+last_more test f n value e (last w lt t v rest) =
+    last w (omega (arith, lt)) t v (λ k above below. elim (cases_eq k n) [ inl same ↦ subst (λ (z : ℕ). test z ≡ false) (sym same) e | inr other ↦ rest k above (omega (arith, below, other)) ])
+
+last_step : (test : ℕ → Bool) (f : ℕ → ℕ) (n : ℕ) (b : Bool) → test n ≡ b → LastBelow test f n (last_or_0 (map f (filter test (nodes_below n)))) →
+    LastBelow test f (suc n) (last_or_0 (map f (filter test (nodes_below n) ++ cond b (n ∷ []) [])))
+last_step test f n true e rest =
+    let value : last_or_0 (map f (filter test (nodes_below n) ++ n ∷ [])) ≡ f n = ap last_or_0 (map-append f (filter test (nodes_below n)) (n ∷ [])) ∙ last_or_0-push (map f (filter test (nodes_below n))) (f n) in
+    last n (omega arith) e (sym value) (λ k above below. absurd (omega (arith, above, below)))
+last_step test f n false e rest =
+    let same : filter test (nodes_below n) ++ [] ≡ filter test (nodes_below n) = simp append-nil in
+    subst (λ (xs : List ℕ). LastBelow test f (suc n) (last_or_0 (map f xs))) (sym same) (last_more test f n (last_or_0 (map f (filter test (nodes_below n)))) e rest)
+
+pub last_below : (test : ℕ → Bool) (f : ℕ → ℕ) (n : ℕ) → LastBelow test f n (last_or_0 (map f (filter test (nodes_below n))))
+last_below test f zero = nothing refl (λ k lt. absurd (omega (arith, lt)))
+last_below test f (suc n) =
+    subst (λ (xs : List ℕ). LastBelow test f (suc n) (last_or_0 (map f xs))) (sym (filter-append test (nodes_below n) (n ∷ []))) (last_step test f n (test n) refl (last_below test f n))
+
+-- a candidate of a load
+pub data IsCandidate (p : Program) (load value : ℕ) : Type 0 where
+  -- the initial value, where no own store to the word comes before
+  initial : value ≡ 0 → ((n : ℕ) → own_earlier p load n ≡ false) → IsCandidate p load value
+  -- the last own store to the word before it
+  own : (store : ℕ) → own_earlier p load store ≡ true → value_of p store ≡ value → ((n : ℕ) → store < n → own_earlier p load n ≡ false) → IsCandidate p load value
+  -- a store to the word in another thread
+  other : (store : ℕ) → writes_for p load store ≡ true → same_thread p load store ≡ false → value_of p store ≡ value → IsCandidate p load value
+
+and_true : (x y : Bool) → (x && y) ≡ true → (x ≡ true) × (y ≡ true)
+and_true true y h = (refl, h)
+and_true false y h = absurd cc
+
+false_or_true : (b : Bool) → (b ≡ true → ⊥) → b ≡ false
+false_or_true true h = absurd (h refl)
+false_or_true false h = refl
+
+-- an own earlier store is a node before the load
+own_earlier_below : (p : Program) (load n : ℕ) → own_earlier p load n ≡ true → n < op_count p
+own_earlier_below p load n h =
+    at_node-below (λ node. is_store node.1) p n
+    (and_true (is_store_at p n) (one_word p load n) (and_true (writes_for p load n) (same_thread p load n && nat_lt n load) h).0).0
+
+none_anywhere : (p : Program) (load : ℕ) → ((k : ℕ) → k < op_count p → own_earlier p load k ≡ false) → (n : ℕ) → own_earlier p load n ≡ false
+none_anywhere p load none n = false_or_true (own_earlier p load n) (λ h. let lacks = none n (own_earlier_below p load n h) in absurd cc)
+
+none_above : (p : Program) (load w : ℕ) → ((k : ℕ) → w < k → k < op_count p → own_earlier p load k ≡ false) → (n : ℕ) → w < n → own_earlier p load n ≡ false
+none_above p load w none n above = false_or_true (own_earlier p load n) (λ h. let lacks = none n above (own_earlier_below p load n h) in absurd cc)
+
+base_kind : (p : Program) (load value : ℕ) → base p load ≡ value → LastBelow (own_earlier p load) (value_of p) (op_count p) (base p load) → IsCandidate p load value
+base_kind p load value e (nothing z none) = initial (sym e ∙ z) (none_anywhere p load none)
+base_kind p load value e (last w lt t v none) = own w t (v ∙ e) (none_above p load w none)
+
+-- each element of the list of candidates is of one of the three kinds
+pub candidate_kind : (p : Program) (load value : ℕ) → Contains (candidates p load) value → IsCandidate p load value
+candidate_kind p load value h = elim (Contains-cons_cases (base p load) (others p load) value h) [
+  | inl same ↦ base_kind p load value same (last_below (own_earlier p load) (value_of p) (op_count p))
+  | inr more ↦
+      let store = Contains-map_back (value_of p) (filter (λ n. writes_for p load n && not (same_thread p load n)) (all_nodes p)) value more in
+      let parts = and_true (writes_for p load store.0) (not (same_thread p load store.0)) (Contains-filter_back (λ n. writes_for p load n && not (same_thread p load n)) (all_nodes p) store.0 store.1).1 in
+      other store.0 parts.0 (not-true (same_thread p load store.0) parts.1) store.2
+]
+
+find_none : (test : ℕ → Bool) (xs : List ℕ) → find test xs ≡ None → (x : ℕ) → Contains xs x → test x ≡ false
+find_none test [] e x h = absurd (Contains-nil x h)
+find_none test (y ∷ ys) e x h = at (test y) refl e (λ rest more. find_none test ys rest x more) where
+  at : (b : Bool) → test y ≡ b → cond b (Some y) (find test ys) ≡ None → (find test ys ≡ None → Contains ys x → test x ≡ false) → test x ≡ false
+  at true t e rest = absurd cc
+  at false t e rest = elim (Contains-cons_cases y ys x h) [ inl same ↦ subst (λ (z : ℕ). test z ≡ false) same t | inr more ↦ rest e more ]
+
+not_false : (b : Bool) → not b ≡ false → b ≡ true
+not_false true h = refl
+not_false false h = absurd cc
+
+-- a load that is a node stands in the list of loads
+pub load_nodes-has : (p : Program) (load : ℕ) → is_load_at p load ≡ true → Contains (load_nodes p) load
+load_nodes-has p load h = Contains-filter (is_load_at p) (all_nodes p) load (has-below (op_count p) load (at_node-below (λ node. is_load node.1) p load h)) h
+
+-- the value that a load gives in an inside run is a candidate's
+pub inside_candidate : (p : Program) (run : List ℕ) (load : ℕ) → IsInside p run → is_load_at p load ≡ true → IsCandidate p load (value_read p run load)
+inside_candidate p run load inside h =
+    let reads : reads_candidate p run load ≡ true =
+    not_false (reads_candidate p run load) (find_none (λ l. not (reads_candidate p run l)) (load_nodes p) inside.none_outside load (load_nodes-has p load h)) in
+    candidate_kind p load (value_read p run load)
+    ((Decides-contains (candidates p load) (value_read p run load) (reads_candidate p run load)
+    (Decides-by_or (λ candidate. candidate == value_read p run load) (λ candidate. candidate ≡ value_read p run load) (list_any (λ candidate. candidate == value_read p run load))
+    (λ candidate. Decides-eqb candidate (value_read p run load)) refl (λ x xs. refl) (candidates p load))).0 reads)
