@@ -50,7 +50,7 @@ decides_reads_from p run a b =
     (Decides-and (value_read p run b == value_of p a) (not (same_thread p a b)) (Decides-eqb (value_read p run b) (value_of p a)) (decides_not (same_thread p a b)))
 
 -- b is before a later store of the given one's thread, in four facts and three
-abbrev IsLaterOf : Program → List ℕ → ℕ → ℕ → ℕ → Type 0
+abbrev pub IsLaterOf : Program → List ℕ → ℕ → ℕ → ℕ → Type 0
 IsLaterOf p run a b store =
     (IsTrue (is_load_at p a) × (IsTrue (is_store_at p store) × (value_read p run a ≡ value_of p store)))
     × ((IsTrue (is_store_at p b) × IsTrue (same_thread p store b)) × ((store < b) × IsTrue (one_word p store b)))
@@ -65,7 +65,7 @@ decides_later_of p run a b store =
     (Decides-and (is_store_at p b) (same_thread p store b) (decides_itself (is_store_at p b)) (decides_itself (same_thread p store b)))
     (Decides-and (nat_lt store b) (one_word p store b) (Decides-ltb store b) (decides_itself (one_word p store b))))
 
-decides_later : (p : Program) (run : List ℕ) (a b : ℕ) → Decides (is_before_later p run a b) ((store : ℕ) × IsLaterOf p run a b store)
+pub decides_later : (p : Program) (run : List ℕ) (a b : ℕ) → Decides (is_before_later p run a b) ((store : ℕ) × IsLaterOf p run a b store)
 decides_later p run a b =
     let found = Decides-by_or (is_before_later_of p run a b) (IsLaterOf p run a b) (list_any (is_before_later_of p run a b)) (decides_later_of p run a b) refl (λ x xs. refl) (all_nodes p) in (
       λ h. let k = found.0 h in (get_or (all_nodes p) k.0 0, k.2 0),
@@ -74,7 +74,7 @@ decides_later p run a b =
           found.1 (at.0, at.1, λ d. subst (IsLaterOf p run a b) (sym (get_or_default (all_nodes p) at.0 d h.0 at.1 ∙ at.2)) h.1),
     )
 
-decides_any : (p : Program) (run : List ℕ) (a b : ℕ) →
+pub decides_any : (p : Program) (run : List ℕ) (a b : ℕ) →
     Decides (is_before_any p run a b) ((IsTrue (is_load_at p a) × (value_read p run a ≡ 0)) × (IsTrue (is_store_at p b) × IsTrue (one_word p a b)))
 decides_any p run a b =
     Decides-and (is_load_at p a && (value_read p run a == 0)) (is_store_at p b && one_word p a b)

@@ -1,0 +1,8 @@
+//! The constraint graph of a run: which pairs of nodes a memory model keeps, and which edges a run adds.
+#![tactic(auto)]
+
+mod kept_order;
+mod run_edges;
+
+pub use kept_order::kept;
+pub use run_edges::edge;

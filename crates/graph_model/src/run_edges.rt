@@ -1,0 +1,91 @@
+//! The edges of a run.
+ghost use Rattle.std.specs.Prelude.{◌≡◌, ◌<◌, ◌&&◌, ◌||◌, ◌↔◌, nat_lt, IsTrue};
+ghost use Rattle.test_lang.specs.EdgeList.{is_before_any, is_before_later, is_edge, is_reads_from};
+ghost use Rattle.test_lang.specs.Edges.{Edge};
+ghost use Rattle.test_lang.specs.Program.{op_count};
+ghost use Rattle.test_lang.specs.Runs.{IsInside, value_read};
+ghost use Rattle.test_lang.specs.Values.{is_load_at, one_word, same_thread};
+
+use crate::kept_order::{is_load, is_store, kept, same_word};
+use test_lang::op::{MemModel, Op};
+use test_lang::test::Test;
+
+/// The value that a load gives in the run.
+fn value_of_load(test: &Test, run: &[u32], load: u32) -> u32
+    requires inside { IsInside test.now run.now }
+    requires is_load { IsTrue (is_load_at test.now load) }
+    ensures { result ≡ value_read test.now run.now load }
+{
+    run[test.rank_of(load) as usize]
+}
+
+/// Whether `to` is a load that gives the value of the store `from` of another thread.
+fn reads_from(test: &Test, run: &[u32], from: u32, to: u32) -> bool
+    requires inside { IsInside test.now run.now }
+    requires first { from < op_count test.now }
+    requires second { to < op_count test.now }
+    ensures { result ≡ is_reads_from test.now run.now from to }
+{
+    match (test.op(from), test.op(to)) {
+        (Op::Store { .. }, Op::Load { .. }) => {
+            value_of_load(test, run, to) == test.value_of(from)
+                && test.thread_of(from) != test.thread_of(to)
+        }
+        _ => false,
+    }
+}
+
+/// Whether `later` is a later operation of the store's thread, on the same word.
+fn is_later(test: &Test, store: u32, later: u32) -> bool
+    requires first { store < op_count test.now }
+    requires second { later < op_count test.now }
+    ensures { result ≡ (same_thread test.now store later && (nat_lt store later && one_word test.now store later)) }
+{
+    test.thread_of(store) == test.thread_of(later)
+        && store < later
+        && same_word(test.op(store), test.op(later))
+}
+
+/// Whether `from` is a load, and `to` a store that is known to be later than what the load gives: later in the thread of the store whose value
+/// it gives, or any store to its word where it gives the initial value.
+fn comes_before(test: &Test, run: &[u32], from: u32, to: u32) -> bool
+    requires inside { IsInside test.now run.now }
+    requires first { from < op_count test.now }
+    requires second { to < op_count test.now }
+    ensures { result ≡ (is_before_later test.now run.now from to || is_before_any test.now run.now from to) }
+{
+    let first = test.op(from);
+    let second = test.op(to);
+    if !is_load(first) {
+        return false;
+    }
+    if !is_store(second) {
+        return false;
+    }
+    let value = value_of_load(test, run, from);
+    if value == 0 {
+        same_word(first, second)
+    } else {
+        is_later(test, test.store_of(value), to)
+    }
+}
+
+fn has_edge(test: &Test, model: MemModel, run: &[u32], from: u32, to: u32) -> bool
+    requires inside { IsInside test.now run.now }
+    requires first { from < op_count test.now }
+    requires second { to < op_count test.now }
+    ensures { result ≡ is_edge model test.now run.now from to }
+{
+    let keeps = kept(test, model, from, to);
+    keeps || reads_from(test, run, from, to) || comes_before(test, run, from, to)
+}
+
+/// Whether the constraint graph of the run has an edge from one node to the other.
+pub fn edge(test: &Test, model: MemModel, run: &[u32], from: u32, to: u32) -> bool
+    requires inside { IsInside test.now run.now }
+    requires first { from < op_count test.now }
+    requires second { to < op_count test.now }
+    ensures { IsTrue result ↔ Edge model test.now run.now from to }
+{
+    has_edge(test, model, run, from, to)
+}
