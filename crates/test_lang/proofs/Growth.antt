@@ -1,10 +1,10 @@
 -- What an added thread and an added operation leave as it was.
-use Rattle.std.proofs.Common.{◌≡◌, ◌∙◌, ℕ, zero, suc, ◌+◌, ◌<◌, ◌≤◌, List, [], ◌∷◌, ◌++◌, map, take, length, cond, refl, ap, arith, sym, append_assoc, append-nil}
+use Rattle.std.proofs.Common.{◌≡◌, ◌∙◌, ℕ, zero, suc, ◌+◌, ◌<◌, ◌≤◌, List, [], ◌∷◌, ◌++◌, map, take, length, cond, refl, ap, arith, sym, subst, All, append_assoc, append-nil, length-append}
 use Rattle.std.specs.Prelude.{sum_by}
 use Rattle.std.proofs.lemmas.List.{map-append, take-append-le}
+use Rattle.std.proofs.lemmas.List.Elements.{All-append, All-cons, All-nil}
 use Rattle.test_lang.specs.declared.op.Op.{Op}
-use Rattle.test_lang.specs.declared.op.Op.TheVariants.{Load, Store, Fence}
-use Rattle.test_lang.specs.Program.{Program, nodes, nodes_from, op_count, first_node, with_last, with_thread, with_op, HasWord}
+use Rattle.test_lang.specs.Program.{Program, nodes, nodes_from, op_count, first_node, with_last, with_thread, with_op, HasWord, IsWithinLimits}
 use Rattle.test_lang.specs.Values.{is_load, is_store, load_nodes}
 use Rattle.test_lang.specs.Tables.{store_nodes}
 use Rattle.test_lang.proofs.Places.{load_node, places, places_push, store_node}
@@ -64,9 +64,34 @@ load_nodes_push p q n op e = ap (λ xs. places load_node xs (length xs)) e ∙ p
 pub store_nodes_push : (p q : Program) (n : ℕ) (op : Op) → nodes q ≡ nodes p ++ (n, op) ∷ [] → store_nodes q ≡ store_nodes p ++ cond (is_store op) (op_count p ∷ []) []
 store_nodes_push p q n op e = ap (λ xs. places store_node xs (length xs)) e ∙ places_push store_node (nodes p) (n, op)
 
--- what the new test says of a word
+-- the limits
 
-pub HasWord-words : (p q : Program) (op : Op) → p.words ≡ q.words → HasWord p op → HasWord q op
-HasWord-words p q (Load word) e h = omega (arith, e, h)
-HasWord-words p q (Store word) e h = omega (arith, e, h)
-HasWord-words p q Fence e h = tt
+pub limits_thread : (p : Program) → IsWithinLimits p → length p.threads < 16 → IsWithinLimits (with_thread p)
+limits_thread p limits room =
+    let more = length-append p.threads ([] ∷ []) in
+    let same = nodes-with_thread p in
+    let count = ap length same in
+    let few = limits.operations in
+    record {
+      some_word = limits.some_word;
+      words = limits.words;
+      threads = omega (arith, room, more);
+      operations = omega (arith, few, count);
+      words_of = subst (All (λ node. HasWord p node.1)) (sym same) limits.words_of;
+    }
+
+pub limits_op : (p : Program) (op : Op) (n : ℕ) → length p.threads ≡ suc n → IsWithinLimits p → op_count p < 2048 → HasWord p op → IsWithinLimits (with_op p op)
+limits_op p op n last limits room word =
+    let threads = threads-with_op p op in
+    let few = limits.threads in
+    let grown = nodes-with_op p op n last in
+    let count = ap length grown in
+    let more = length-append (nodes p) ((n, op) ∷ []) in
+    let has : ℕ × Op → Type 0 = λ node. HasWord p node.1 in
+    record {
+      some_word = limits.some_word;
+      words = limits.words;
+      threads = omega (arith, few, threads);
+      operations = omega (arith, room, count, more);
+      words_of = subst (All has) (sym grown) (All-append has (nodes p) ((n, op) ∷ []) limits.words_of (All-cons has (n, op) [] word (All-nil has)));
+    }

@@ -1,9 +1,9 @@
 -- The tables of a test that grew.
-use Rattle.std.proofs.Common.{◌≡◌, ◌∙◌, ℕ, suc, ◌+◌, ◌<◌, ◌≤◌, List, [], ◌∷◌, ◌++◌, length, cond, Some, refl, ap, arith, sym, subst, ⊎_elim, append-nil, length-append}
+use Rattle.std.proofs.Common.{◌≡◌, ◌∙◌, ℕ, suc, ◌+◌, ◌<◌, ◌≤◌, List, [], ◌∷◌, ◌++◌, length, cond, Some, refl, ap, arith, sym, subst, get_or, ⊎_elim, append-nil, length-append}
 use Rattle.std.specs.Prelude.{slice_get}
 use Rattle.std.proofs.lemmas.Bool.{cases_lt}
 use Rattle.std.proofs.lemmas.List.{get_or_append_left, get_or_push}
-use Rattle.std.proofs.lemmas.Option.{slice_get_within}
+use Rattle.std.proofs.lemmas.Option.{slice_get_read, slice_get_within}
 use Rattle.test_lang.specs.declared.op.Op.{Op}
 use Rattle.test_lang.specs.declared.test.Row.{Row}
 use Rattle.test_lang.specs.Program.{Program, nodes, op_count, with_thread, with_op, HasWord}
@@ -12,12 +12,12 @@ use Rattle.test_lang.specs.Tables.{Describes, Tabulates, store_nodes}
 use Rattle.test_lang.proofs.Places.{load_node, passing, passing-append, passing_all, places, slice_get-append_left, slice_get_cases_end, slice_get_end, store_node}
 use Rattle.test_lang.proofs.Ranks.{length-load_nodes, length-store_nodes, load_count-le, store_count-le}
 use Rattle.test_lang.proofs.Threads.{first_node_all}
-use Rattle.test_lang.proofs.Growth.{HasWord-words, first_node-with_op, first_node-with_thread, load_nodes_push, nodes-with_op, nodes-with_thread, store_nodes_push, threads-with_op}
+use Rattle.test_lang.proofs.Growth.{limits_thread, limits_op, first_node-with_op, first_node-with_thread, load_nodes_push, nodes-with_op, nodes-with_thread, store_nodes_push, threads-with_op}
 
 -- a row describes its node still
-describes_still : (p q : Program) (more : List (ℕ × Op)) → nodes q ≡ nodes p ++ more → length p.threads ≤ length q.threads → p.words ≡ q.words → (node : ℕ) (row : Row) → Describes p node row
+describes_still : (p q : Program) (more : List (ℕ × Op)) → nodes q ≡ nodes p ++ more → length p.threads ≤ length q.threads → (node : ℕ) (row : Row) → Describes p node row
     → Describes q node row
-describes_still p q more e threads words node row d =
+describes_still p q more e threads node row d =
     let within = slice_get_within (nodes p) node (row.thread, row.op) d.is_node in
     let short : node ≤ length (nodes p) = omega (arith, within) in
     let stores : passing store_node (nodes q) node ≡ passing store_node (nodes p) node = ap (λ xs. passing store_node xs node) e ∙ passing-append store_node (nodes p) more node short in
@@ -27,7 +27,6 @@ describes_still p q more e threads words node row d =
       has_value = d.has_value ∙ ap (λ (n : ℕ). n + 1) (sym stores);
       has_rank = d.has_rank ∙ sym loads;
       has_thread = let lt = d.has_thread in omega (arith, lt, threads);
-      has_word = HasWord-words p q row.op words d.has_word;
     }
 
 -- the row of a node that was added
@@ -35,10 +34,9 @@ record FitsEnd (p : Program) (row : Row) : Type 0 where
   last_thread : suc row.thread ≡ length p.threads
   next_value : row.value ≡ store_count p + 1
   next_rank : row.rank ≡ load_count p
-  some_word : HasWord p row.op
 
-describes_last : (p q : Program) (row : Row) → nodes q ≡ nodes p ++ (row.thread, row.op) ∷ [] → length p.threads ≡ length q.threads → p.words ≡ q.words → FitsEnd p row → Describes q (op_count p) row
-describes_last p q row e threads words fits =
+describes_last : (p q : Program) (row : Row) → nodes q ≡ nodes p ++ (row.thread, row.op) ∷ [] → length p.threads ≡ length q.threads → FitsEnd p row → Describes q (op_count p) row
+describes_last p q row e threads fits =
     let here : ℕ × Op = (row.thread, row.op) in
     let stores : passing store_node (nodes q) (op_count p) ≡ store_count p =
     ap (λ xs. passing store_node xs (op_count p)) e ∙ passing-append store_node (nodes p) (here ∷ []) (op_count p) (omega arith) ∙ passing_all store_node (nodes p) in
@@ -49,7 +47,6 @@ describes_last p q row e threads words fits =
       has_value = fits.next_value ∙ ap (λ (n : ℕ). n + 1) (sym stores);
       has_rank = fits.next_rank ∙ sym loads;
       has_thread = let last = fits.last_thread in omega (arith, last, threads);
-      has_word = HasWord-words p q row.op words fits.some_word;
     }
 
 pub tabulates-with_thread : (p : Program) (rows : List Row) (loads stores firsts : List ℕ) (first : ℕ) → Tabulates p rows loads stores firsts → length p.threads < 16 → first ≡ length rows
@@ -59,17 +56,13 @@ tabulates-with_thread p rows loads stores firsts first t room is_first =
     let same : nodes q ≡ nodes p = nodes-with_thread p in
     let count : op_count q ≡ op_count p = ap length same in
     let one_row_each = t.one_row_each in
-    let few_ops = t.few_ops in
     let one_first_each = t.one_first_each in
     let threads : length q.threads ≡ length p.threads + 1 = length-append p.threads ([] ∷ []) in
     let firsts_more : length (firsts ++ first ∷ []) ≡ length firsts + 1 = length-append firsts (first ∷ []) in
     record {
-      some_words = t.some_words;
-      few_words = t.few_words;
-      few_threads = omega (arith, room, threads);
-      few_ops = omega (arith, few_ops, count);
+      limits = limits_thread p t.limits room;
       one_row_each = omega (arith, one_row_each, count);
-      rows_describe = λ node row e. describes_still p q [] (same ∙ sym (append-nil (nodes p))) (omega (arith, threads)) refl node row (t.rows_describe node row e);
+      rows_describe = λ node row e. describes_still p q [] (same ∙ sym (append-nil (nodes p))) (omega (arith, threads)) node row (t.rows_describe node row e);
       loads_are = t.loads_are ∙ ap (λ xs. places load_node xs (length xs)) (sym same);
       stores_are = t.stores_are ∙ ap (λ xs. places store_node xs (length xs)) (sym same);
       one_first_each = omega (arith, one_first_each, threads, firsts_more);
@@ -92,25 +85,21 @@ tabulates-with_op p rows loads stores firsts row t last value rank room word =
     let grown : nodes q ≡ nodes p ++ (row.thread, row.op) ∷ [] = nodes-with_op p row.op row.thread (sym last) in
     let count : op_count q ≡ op_count p + 1 = ap length grown ∙ length-append (nodes p) ((row.thread, row.op) ∷ []) in
     let threads : length q.threads ≡ length p.threads = threads-with_op p row.op in
-    let few_threads = t.few_threads in
     let one_row_each = t.one_row_each in
     let one_first_each = t.one_first_each in
     let stores_now : length stores ≡ store_count p = ap length t.stores_are ∙ length-store_nodes p in
     let loads_now : length loads ≡ load_count p = ap length t.loads_are ∙ length-load_nodes p in
     let rows_more : length (rows ++ row ∷ []) ≡ length rows + 1 = length-append rows (row ∷ []) in
-    let fits : FitsEnd p row = record { last_thread = last; next_value = value ∙ ap (λ (n : ℕ). n + 1) stores_now; next_rank = rank ∙ loads_now; some_word = word } in
+    let fits : FitsEnd p row = record { last_thread = last; next_value = value ∙ ap (λ (n : ℕ). n + 1) stores_now; next_rank = rank ∙ loads_now } in
     record {
-      some_words = t.some_words;
-      few_words = t.few_words;
-      few_threads = omega (arith, few_threads, threads);
-      few_ops = omega (arith, room, count);
+      limits = limits_op p row.op row.thread (sym last) t.limits room word;
       one_row_each = omega (arith, one_row_each, count, rows_more);
       rows_describe = λ node other e.
           ⊎_elim
-          (λ (old : slice_get rows node ≡ Some other). describes_still p q ((row.thread, row.op) ∷ []) grown (omega (arith, threads)) refl node other (t.rows_describe node other old))
+          (λ (old : slice_get rows node ≡ Some other). describes_still p q ((row.thread, row.op) ∷ []) grown (omega (arith, threads)) node other (t.rows_describe node other old))
           (λ (new : (node ≡ length rows) × (row ≡ other)).
           let place : op_count p ≡ node = sym (new.0 ∙ one_row_each) in
-          subst (λ (n : ℕ). Describes q n other) place (subst (λ (r : Row). Describes q (op_count p) r) new.1 (describes_last p q row grown (sym threads) refl fits)))
+          subst (λ (n : ℕ). Describes q n other) place (subst (λ (r : Row). Describes q (op_count p) r) new.1 (describes_last p q row grown (sym threads) fits)))
           (slice_get_cases_end rows row node other e);
       loads_are = ap (λ list. list ++ cond (is_load row.op) (length rows ∷ []) []) t.loads_are ∙ ap (λ (n : ℕ). load_nodes p ++ cond (is_load row.op) (n ∷ []) []) one_row_each
           ∙ sym (load_nodes_push p q row.thread row.op grown);
@@ -133,3 +122,17 @@ few_loads p rows loads stores firsts t = let total = load_total p rows loads sto
 
 pub few_stores : (p : Program) (rows : List Row) (loads stores firsts : List ℕ) → Tabulates p rows loads stores firsts → length stores ≤ op_count p
 few_stores p rows loads stores firsts t = let total = store_total p rows loads stores firsts t in let le = store_count-le p in omega (arith, total, le)
+
+-- what a read of a table finds
+
+pub load_found : (p q : Program) (rows : List Row) (loads stores firsts : List ℕ) → Tabulates p rows loads stores firsts → p ≡ q → (rank node : ℕ) → rank < load_count q → node ≡ get_or loads rank node
+    → slice_get (load_nodes q) rank ≡ Some node
+load_found p q rows loads stores firsts t same rank node lt read =
+    let listed : loads ≡ load_nodes q = t.loads_are ∙ ap load_nodes same in
+    ap (λ list. slice_get list rank) (sym listed) ∙ slice_get_read loads (load_count q) rank node (sym (ap length listed ∙ length-load_nodes q)) lt read
+
+pub store_found : (p q : Program) (rows : List Row) (loads stores firsts : List ℕ) → Tabulates p rows loads stores firsts → p ≡ q → (place node : ℕ) → place < store_count q → node ≡ get_or stores place node
+    → slice_get (store_nodes q) place ≡ Some node
+store_found p q rows loads stores firsts t same place node lt read =
+    let listed : stores ≡ store_nodes q = t.stores_are ∙ ap store_nodes same in
+    ap (λ list. slice_get list place) (sym listed) ∙ slice_get_read stores (store_count q) place node (sym (ap length listed ∙ length-store_nodes q)) lt read

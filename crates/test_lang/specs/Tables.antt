@@ -1,8 +1,8 @@
 -- The tables of a test: a row for each node, the nodes of its loads and of its stores, and the first node of each thread.
-use Rattle.std.specs.Prelude.{◌≡◌, ℕ, zero, suc, ◌<◌, ◌≤◌, List, [], ◌∷◌, length, filter, Some, slice_get, slice_index}
+use Rattle.std.specs.Prelude.{◌≡◌, ℕ, zero, suc, ◌<◌, List, [], ◌∷◌, length, filter, Some, slice_get, slice_index}
 use Rattle.test_lang.specs.declared.op.Op.{Op}
 use Rattle.test_lang.specs.declared.test.Row.{Row}
-use Rattle.test_lang.specs.Program.{Program, nodes, all_nodes, op_count, first_node, HasWord}
+use Rattle.test_lang.specs.Program.{Program, nodes, all_nodes, op_count, first_node, IsWithinLimits}
 use Rattle.test_lang.specs.Values.{is_store_at, load_nodes, value_of, rank_of}
 
 -- The threads that the rows make, by the thread of each row.
@@ -34,14 +34,10 @@ pub record Describes (p : Program) (node : ℕ) (row : Row) : Type 0 where
   pub has_value : row.value ≡ value_of p node
   pub has_rank : row.rank ≡ rank_of p node
   pub has_thread : row.thread < length p.threads
-  pub has_word : HasWord p row.op
 
 -- The tables tell the test, and the test is within its limits.
 pub record Tabulates (p : Program) (rows : List Row) (loads stores firsts : List ℕ) : Type 0 where
-  pub some_words : 1 ≤ p.words
-  pub few_words : p.words ≤ 256
-  pub few_threads : length p.threads ≤ 16
-  pub few_ops : op_count p ≤ 2048
+  pub limits : IsWithinLimits p
   pub one_row_each : length rows ≡ op_count p
   pub rows_describe : (node : ℕ) (row : Row) → slice_get rows node ≡ Some row → Describes p node row
   pub loads_are : loads ≡ load_nodes p

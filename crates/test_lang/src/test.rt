@@ -1,12 +1,13 @@
 //! A test: threads of operations over a number of words, with tables that answer for each node in constant time.
-ghost use Rattle.std.specs.Prelude.{◌≡◌, ◌+◌, ◌<◌, ◌≤◌, length, OnOk, OnErr, Some};
-ghost use Rattle.test_lang.specs.Program.{empty_program, with_thread, with_op, op_count, op_at, thread_at, first_node, thread_length, HasWord};
-ghost use Rattle.test_lang.specs.Tables.{Describes};
+ghost use Rattle.std.specs.Prelude.{◌≡◌, ◌<◌, ◌≤◌, length, OnOk, OnErr};
+ghost use Rattle.test_lang.specs.Program.{empty_program, with_thread, with_op, op_count, HasWord, IsWithinLimits};
 ghost use Rattle.test_lang.specs.Values.{load_count, store_count};
 
 use crate::op::Op;
 use std::alloc::{AllocError, Global};
 use std::marker::Model;
+
+mod lookups;
 
 /// What the accessors answer of one node.
 #[derive(Clone, Copy, Debug, Drop)]
@@ -21,7 +22,7 @@ struct Row {
 
 /// A test: 1 to 256 words, and at most 16 threads of at most 2048 operations in all.
 ///
-/// The operations, numbered from 0 in text order, fences included, are its nodes. Loads have ranks from 0, and stores have values from 1,
+/// Its operations, numbered from 0 in text order, fences included, are its nodes. Loads have ranks from 0, and stores have values from 1,
 /// both in text order.
 #[derive(Debug, Drop)]
 pub struct Test {
@@ -60,7 +61,7 @@ impl Test {
         }
     }
 
-    /// Adds an empty thread at the end. An error is want of memory.
+    /// Adds an empty thread at the end. The error is want of memory.
     pub fn add_thread(&mut self) -> Result<(), AllocError>
         requires { length self.old.threads < 16 }
         ensures ok { OnOk result (self.new ≡ with_thread self.old) }
@@ -70,7 +71,7 @@ impl Test {
         Ok(())
     }
 
-    /// Adds the operation at the end of the last thread. An error is want of memory.
+    /// Adds the operation at the end of the last thread. The error is want of memory.
     pub fn add_op(&mut self, op: Op) -> Result<(), AllocError>
         requires thread { 0 < length self.old.threads }
         requires room { op_count self.old < 2048 }
@@ -85,6 +86,7 @@ impl Test {
             value: self.store_nodes.len() as u32 + 1,
             rank: self.load_nodes.len() as u32,
         };
+        // Room for the row comes first, so that nothing has to be undone.
         self.rows.reserve(1)?;
         match op {
             Op::Load { .. } => self.load_nodes.push(node)?,
@@ -100,6 +102,7 @@ impl Test {
         ensures count { result ≡ self.now.words }
         ensures some { 1 ≤ result }
         ensures few { result ≤ 256 }
+        ensures limits { IsWithinLimits self.now }
     {
         self.words
     }
@@ -124,7 +127,7 @@ impl Test {
     pub fn loads(&self) -> u32
         ensures count { result ≡ load_count self.now }
         ensures few { result ≤ op_count self.now }
-        ensures fits { op_count self.now ≤ 2048 }
+        ensures room { op_count self.now ≤ 2048 }
     {
         self.load_nodes.len() as u32
     }
@@ -133,41 +136,8 @@ impl Test {
     pub fn stores(&self) -> u32
         ensures count { result ≡ store_count self.now }
         ensures few { result ≤ op_count self.now }
-        ensures fits { op_count self.now ≤ 2048 }
+        ensures room { op_count self.now ≤ 2048 }
     {
         self.store_nodes.len() as u32
-    }
-
-    fn row(&self, node: u32) -> Row
-        requires { node < op_count self.now }
-        ensures { Describes self.now node result }
-    {
-        self.rows[node as usize]
-    }
-
-    /// The operation of a node.
-    pub fn op(&self, node: u32) -> Op
-        requires { node < op_count self.now }
-        ensures found { op_at self.now node ≡ Some result }
-        ensures word { HasWord self.now result }
-    {
-        self.row(node).op
-    }
-
-    /// The thread of a node.
-    pub fn thread_of(&self, node: u32) -> u32
-        requires { node < op_count self.now }
-        ensures found { thread_at self.now node ≡ Some result }
-        ensures in_range { result < length self.now.threads }
-    {
-        self.row(node).thread
-    }
-
-    /// The node that the thread's first operation has or would have.
-    pub fn first_of(&self, thread: u32) -> u32
-        requires { thread < length self.now.threads }
-        ensures { result ≡ first_node self.now thread }
-    {
-        self.first_nodes[thread as usize]
     }
 }

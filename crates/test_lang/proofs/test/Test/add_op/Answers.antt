@@ -12,21 +12,21 @@ use Rattle.test_lang.proofs.test.Test.add_op.Goals.{in-Load+in_ok-push-in-Load, 
 pub overflow_cast-row-2 : goal.overflow_cast-row-2
 overflow_cast-row-2 c =
     let few = few_stores _ _ _ _ _ c.self.invariant in
-    let ops = c.self.invariant.few_ops in
+    let ops = c.self.invariant.limits.operations in
     let len = c.self.inside.store_nodes.ok.0 in
     omega (arith, few, ops, len)
 
 pub overflow_add-row : goal.overflow_add-row
 overflow_add-row c =
     let few = few_stores _ _ _ _ _ c.self.invariant in
-    let ops = c.self.invariant.few_ops in
+    let ops = c.self.invariant.limits.operations in
     let len = c.self.inside.store_nodes.ok.0 in
     omega (arith, few, ops, len)
 
 pub overflow_cast-row-3 : goal.overflow_cast-row-3
 overflow_cast-row-3 c =
     let few = few_loads _ _ _ _ _ c.self.invariant in
-    let ops = c.self.invariant.few_ops in
+    let ops = c.self.invariant.limits.operations in
     let len = c.self.inside.load_nodes.ok.0 in
     omega (arith, few, ops, len)
 

@@ -7,7 +7,7 @@ use Rattle.test_lang.proofs.test.Test.stores.Goals as goal
 pub overflow_cast-result : goal.overflow_cast-result
 overflow_cast-result c =
     let few = few_stores _ _ _ _ _ c.self.invariant in
-    let ops = c.self.invariant.few_ops in
+    let ops = c.self.invariant.limits.operations in
     let len = c.self.inside.store_nodes.ok.0 in
     omega (arith, few, ops, len)
 
