@@ -1,0 +1,7 @@
+-- Laws of lines, numerals and the text of a test.
+pub mod Choices
+pub mod FirstLine
+pub mod Lines
+pub mod Digits
+pub mod Numerals
+pub mod Forms
