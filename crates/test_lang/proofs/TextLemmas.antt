@@ -5,3 +5,4 @@ pub mod Lines
 pub mod Digits
 pub mod Numerals
 pub mod Forms
+pub mod Judging
