@@ -6,3 +6,5 @@ pub mod Digits
 pub mod Numerals
 pub mod Forms
 pub mod Judging
+pub mod Bodies
+pub mod Walking

@@ -1,10 +1,10 @@
 -- The one text of a test.
-use Rattle.std.specs.Prelude.{◌≡◌, ℕ, ◌<◌, ◌≤◌, List, [], ◌∷◌, ◌++◌, map, length, All, codes}
+use Rattle.std.specs.Prelude.{◌≡◌, ℕ, ◌<◌, List, [], ◌∷◌, ◌++◌, map, length, codes}
 use Rattle.std.specs.Fmt.{decimal}
 use Rattle.std.specs.List.{flat_map}
 use Rattle.test_lang.specs.declared.op.Op.{Op}
 use Rattle.test_lang.specs.declared.op.Op.TheVariants.{Load, Store, Fence}
-use Rattle.test_lang.specs.Program.{Program, nodes, op_count, HasWord}
+use Rattle.test_lang.specs.Program.{Program, IsWithinLimits}
 use Rattle.test_lang.specs.Text.Line.{closed}
 use Rattle.test_lang.specs.Text.Numeral.{part}
 
@@ -34,16 +34,8 @@ test_lines p = head_line ∷ words_line p.words ∷ (body_lines p ++ codes "end"
 abbrev pub test_text : Program → List ℕ
 test_text p = closed (test_lines p)
 
--- The test is within the limits, and each word that it names is one of its words.
-pub record IsTest (p : Program) : Type 0 where
-  pub some_words : 1 ≤ p.words
-  pub few_words : p.words ≤ 256
-  pub few_threads : length p.threads ≤ 16
-  pub few_ops : op_count p ≤ 2048
-  pub words : All (λ node. HasWord p node.1) (nodes p)
-
 -- The text begins with the text of this test, which has a thread, and these bytes stand behind it.
 pub record StartsWithTest (text : List ℕ) (p : Program) (rest : List ℕ) : Type 0 where
-  pub is_test : IsTest p
+  pub limits : IsWithinLimits p
   pub some_thread : 0 < length p.threads
   pub whole : text ≡ test_text p ++ rest

@@ -5,10 +5,10 @@ use Rattle.test_lang.specs.declared.text.form.Form.{Form}
 use Rattle.test_lang.specs.declared.text.form.Form.TheVariants.{Thread, Operation}
 use Rattle.test_lang.specs.declared.text.fault.TestFault.{TestFault}
 use Rattle.test_lang.specs.declared.text.fault.TestFault.TheVariants.{BadHead, BadWords, BadLine, WordRange, TooManyThreads, TooManyOps, NoThread, NoEnd, Memory}
-use Rattle.test_lang.specs.Program.{Program, op_count, HasWord}
+use Rattle.test_lang.specs.Program.{Program, op_count, HasWord, IsWithinLimits}
 use Rattle.test_lang.specs.Text.Line.{IsLine, StartsWithLine, closed}
 use Rattle.test_lang.specs.Text.Form.{HasForm}
-use Rattle.test_lang.specs.Text.Grammar.{head_line, words_line, body_lines, IsTest, StartsWithTest}
+use Rattle.test_lang.specs.Text.Grammar.{head_line, words_line, body_lines, StartsWithTest}
 
 -- The good lines before a bad one: none, the first, or those of a test but its last.
 pub data Begun : Type 0 where
@@ -24,23 +24,23 @@ begun_lines (behind p) = head_line ∷ words_line p.words ∷ body_lines p
 abbrev pub IsWellBegun : Begun → Type 0
 IsWellBegun nothing = Unit {0}
 IsWellBegun head = Unit {0}
-IsWellBegun (behind p) = IsTest p
+IsWellBegun (behind p) = IsWithinLimits p
 
--- the first line is closed and such
-abbrev pub FirstLineIs : (List ℕ → Type 0) → List ℕ → Type 0
-FirstLineIs P text = (line : List ℕ) × (rest : List ℕ) × StartsWithLine text line rest × P line
+-- Why a line is bad behind the good ones, one row for each refusal.
+abbrev pub IsBadLine : TestFault → Begun → List ℕ → Type 0
+IsBadLine (BadHead number) nothing line = line ≢ head_line
+IsBadLine (BadWords number) head line = (n : ℕ) → 1 ≤ n → n ≤ 256 → line ≢ words_line n
+IsBadLine (BadLine number) (behind p) line = (form : Form) → ¬ HasForm line form
+IsBadLine (TooManyThreads number) (behind p) line = HasForm line Thread × (length p.threads ≡ 16)
+IsBadLine (NoThread number) (behind p) line = (form : Form) × HasForm line form × (form ≢ Thread) × (length p.threads ≡ 0)
+IsBadLine (WordRange number) (behind p) line = (op : Op) × HasForm line (Operation op) × (0 < length p.threads) × ¬ HasWord p op
+IsBadLine (TooManyOps number) (behind p) line = (op : Op) × HasForm line (Operation op) × (0 < length p.threads) × HasWord p op × (op_count p ≡ 2048)
+IsBadLine fault begun line = ⊥
 
--- What is wrong with the first of these bytes behind the good lines, one row for each refusal.
-abbrev pub IsBad : Begun → List ℕ → TestFault → Type 0
-IsBad begun bytes (NoEnd number) = IsLine bytes
-IsBad nothing bytes (BadHead number) = FirstLineIs (λ line. line ≢ head_line) bytes
-IsBad head bytes (BadWords number) = FirstLineIs (λ line. (n : ℕ) → 1 ≤ n → n ≤ 256 → line ≢ words_line n) bytes
-IsBad (behind p) bytes (BadLine number) = FirstLineIs (λ line. (form : Form) → ¬ HasForm line form) bytes
-IsBad (behind p) bytes (TooManyThreads number) = FirstLineIs (λ line. HasForm line Thread × (length p.threads ≡ 16)) bytes
-IsBad (behind p) bytes (NoThread number) = FirstLineIs (λ line. (form : Form) × HasForm line form × (form ≢ Thread) × (length p.threads ≡ 0)) bytes
-IsBad (behind p) bytes (WordRange number) = FirstLineIs (λ line. (op : Op) × HasForm line (Operation op) × (0 < length p.threads) × ¬ HasWord p op) bytes
-IsBad (behind p) bytes (TooManyOps number) = FirstLineIs (λ line. (op : Op) × HasForm line (Operation op) × (0 < length p.threads) × HasWord p op × (op_count p ≡ 2048)) bytes
-IsBad begun bytes fault = ⊥
+-- The bytes behind the good lines are bad: no line of them is closed, or the first is bad.
+abbrev pub IsBad : TestFault → Begun → List ℕ → Type 0
+IsBad (NoEnd number) begun bytes = IsLine bytes
+IsBad fault begun bytes = (line : List ℕ) × (rest : List ℕ) × StartsWithLine bytes line rest × IsBadLine fault begun line
 
 abbrev pub number_of : TestFault → ℕ
 number_of (BadHead number) = number
@@ -59,7 +59,7 @@ pub record IsRefused (text : List ℕ) (fault : TestFault) : Type 0 where
   pub bytes : List ℕ
   pub good : IsWellBegun begun
   pub whole : text ≡ closed (begun_lines begun) ++ bytes
-  pub bad : IsBad begun bytes fault
+  pub bad : IsBad fault begun bytes
   pub number : number_of fault ≡ length (begun_lines begun) + 1
 
 -- What a text means: it begins with the text of a test, or is refused.
