@@ -8,3 +8,4 @@ pub mod Forms
 pub mod Judging
 pub mod Bodies
 pub mod Walking
+pub mod Passing
