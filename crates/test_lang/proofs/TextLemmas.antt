@@ -9,3 +9,4 @@ pub mod Judging
 pub mod Bodies
 pub mod Walking
 pub mod Passing
+pub mod LinesRead
