@@ -10,3 +10,4 @@ pub mod Bodies
 pub mod Walking
 pub mod Passing
 pub mod LinesRead
+pub mod Readings

@@ -71,9 +71,3 @@ lines_of-closed (line ∷ lines) rest h =
 pub closed-append : (before after : List (List ℕ)) → closed (before ++ after) ≡ closed before ++ closed after
 closed-append [] after = refl
 closed-append (line ∷ lines) after = ap (λ (ys : List ℕ). line ++ 10 ∷ ys) (closed-append lines after) ∙ sym (append_assoc line (10 ∷ closed lines) (closed after))
-
--- The bytes of a text are its lines, each closed, and bytes without a line feed.
-pub record IsInLines (text : List ℕ) (lines : List (List ℕ)) (rest : List ℕ) : Type 0 where
-  pub each : AllByRecursion IsLine lines
-  pub unclosed : IsLine rest
-  pub whole : text ≡ closed lines ++ rest
