@@ -11,3 +11,5 @@ pub mod Walking
 pub mod Passing
 pub mod LinesRead
 pub mod Readings
+pub mod SoFar
+pub mod Heads

@@ -5,3 +5,4 @@ pub mod Form
 pub mod Grammar
 pub mod Reading
 pub mod Refusal
+pub mod Answer

@@ -2,5 +2,7 @@
 
 pub mod fault;
 pub mod form;
+mod judge;
 pub mod line;
 pub mod numeral;
+pub mod read;

@@ -10,7 +10,7 @@ use Rattle.test_lang.specs.declared.op.Op.TheVariants.{Load, Store, Fence}
 use Rattle.test_lang.specs.Program.{Program, empty_program, with_last, with_thread, with_op, nodes, nodes_from, op_count, HasWord, IsWithinLimits}
 use Rattle.test_lang.specs.Text.Grammar.{op_line, thread_lines, body_lines}
 use Rattle.test_lang.proofs.Threads.{first_node_all}
-use Rattle.test_lang.proofs.Growth.{nodes-with_thread, nodes-with_op, threads-with_op, HasWord-words}
+use Rattle.test_lang.proofs.Growth.{nodes-with_thread, nodes-with_op, threads-with_op}
 
 pub body_lines-with_thread : (p : Program) → body_lines (with_thread p) ≡ body_lines p ++ codes "thread" ∷ []
 body_lines-with_thread p = flat_map-append thread_lines p.threads ([] ∷ [])

@@ -73,7 +73,7 @@ module _ (p : Program) (n : ℕ) where
 
   -- from the words to the tests
 
-  judged-operation : (op : Op) (none other full : Bool) → eqb (length p.threads) 0 ≡ none → names_other_word p (Operation op) ≡ other → leb 2048 (op_count p) ≡ full
+  pub judged-operation : (op : Op) (none other full : Bool) → eqb (length p.threads) 0 ≡ none → names_other_word p (Operation op) ≡ other → leb 2048 (op_count p) ≡ full
       → judged p n (Some (Operation op)) ≡ cond none (Err (NoThread n)) (cond other (Err (WordRange n)) (cond full (Err (TooManyOps n)) (Ok (Operation op))))
   judged-operation op none other full e f g =
       ap (λ (b : Bool). cond b (Err (NoThread n)) (cond (names_other_word p (Operation op)) (Err (WordRange n)) (cond (leb 2048 (op_count p)) (Err (TooManyOps n)) (Ok (Operation op))))) e
