@@ -13,3 +13,5 @@ pub mod LinesRead
 pub mod Readings
 pub mod SoFar
 pub mod Heads
+pub mod Printing
+pub mod Answering

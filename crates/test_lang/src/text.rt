@@ -5,4 +5,5 @@ pub mod form;
 mod judge;
 pub mod line;
 pub mod numeral;
+pub mod print;
 pub mod read;

@@ -8,7 +8,7 @@ use Rattle.test_lang.specs.declared.text.fault.TestFault.{TestFault}
 use Rattle.test_lang.specs.declared.text.fault.TestFault.TheVariants.{BadHead, BadWords, BadLine, WordRange, TooManyThreads, TooManyOps, NoThread, NoEnd, Memory}
 use Rattle.test_lang.specs.Program.{Program, HasWord, IsWithinLimits}
 use Rattle.test_lang.specs.Text.Line.{IsLine, StartsWithLine, closed, lines_of, on_first}
-use Rattle.test_lang.specs.Text.Grammar.{op_line, thread_lines, body_lines, test_lines, test_text}
+use Rattle.test_lang.specs.Text.Grammar.{op_line, thread_lines, body_lines, test_lines, test_text, StartsWithTest}
 use Rattle.test_lang.specs.Text.Reading.{reading}
 use Rattle.test_lang.specs.Text.Refusal.{Begun, nothing, head, behind, begun_lines, IsWellBegun, IsBad, IsBadLine, Means}
 use Rattle.test_lang.proofs.TextLemmas.Lines.{lines_of-line, lines_of-none, lines_of-closed, closed-append}
@@ -147,3 +147,12 @@ reading_means text = let split = in_lines text in lines_mean-text text (lines_of
 -- What is meant is read.
 pub means_reading : (text : List ℕ) (read : Result Program TestFault) → Means text read → reading text ≡ read
 means_reading text read h = mean_lines (lines_of text) read (text_means-lines text read h)
+
+-- The text of a test is read as that test, whatever stands behind it.
+pub reading-test_text : (text : List ℕ) (p : Program) (rest : List ℕ) → text ≡ test_text p → IsWithinLimits p → 0 < length p.threads → reading (text ++ rest) ≡ Ok p
+reading-test_text text p rest is limits some =
+    means_reading (text ++ rest) (Ok p) (rest, record { limits = limits; some_thread = some; whole = ap (λ (ys : List ℕ). ys ++ rest) is })
+
+-- What is read as a test begins with its text.
+pub reading-starts : (text : List ℕ) (p : Program) → reading text ≡ Ok p → (rest : List ℕ) × StartsWithTest text p rest
+reading-starts text p e = subst (Means text) e (reading_means text)

@@ -6,7 +6,9 @@ ghost use Rattle.test_lang.specs.declared.text.fault.TestFault.TheVariants.{Memo
 ghost use Rattle.test_lang.specs.Text.Line.{closed, lines_of};
 ghost use Rattle.test_lang.specs.Text.Grammar.{body_lines};
 ghost use Rattle.test_lang.specs.Text.Reading.{walk, words_of, reading};
-ghost use Rattle.test_lang.specs.Text.Answer.{Answers};
+ghost use Rattle.test_lang.specs.Text.Refusal.{IsRefused, Means};
+ghost use Rattle.test_lang.specs.Text.Answer.{IsRead, Answers};
+ghost use Rattle.test_lang.specs.declared.text.fault.TestFault.{TestFault};
 
 use crate::test::Test;
 use crate::text::fault::TestFault;
@@ -105,8 +107,16 @@ fn read_test(alloc: Global, bytes: &[u8]) -> Result<ReadTest, TestFault>
 impl Test {
     /// Reads the test whose text stands at the front of the bytes, or refuses its first bad line.
     pub fn read(alloc: Global, bytes: &[u8]) -> Result<ReadTest, TestFault>
-        // What the text gives is answered, unless memory runs out.
+        // What is answered is a function of the bytes, unless memory runs out.
         ensures exact { Answers result (reading bytes.now) }
+        // The text of the test that is read stands at the front of the bytes.
+        ensures found { IfOk result (IsRead bytes.now) }
+        // What is refused is refused so by the rules of the text.
+        ensures refused { IfErr result (λ fault. (fault ≡ Memory) ⊎ IsRefused bytes.now fault) }
+        // What the bytes mean is answered, unless memory runs out.
+        ensures only { (meant : Result Program TestFault) → Means bytes.now meant → Answers result meant }
+        ensures used_within { IfOk result (λ read. read.used ≤ length bytes.now) }
+        ensures few_lines { IfOk result (λ read. read.lines ≤ 2067) }
     {
         read_test(alloc, bytes)
     }
