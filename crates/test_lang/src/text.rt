@@ -3,6 +3,7 @@
 pub mod fault;
 pub mod form;
 mod judge;
+pub mod laws;
 pub mod line;
 pub mod numeral;
 pub mod print;

@@ -7,7 +7,7 @@ use Rattle.test_lang.specs.declared.op.Op.{Op}
 use Rattle.test_lang.specs.declared.text.fault.TestFault.{TestFault}
 use Rattle.test_lang.specs.declared.text.fault.TestFault.TheVariants.{BadHead, BadWords, BadLine, WordRange, TooManyThreads, TooManyOps, NoThread, NoEnd, Memory}
 use Rattle.test_lang.specs.Program.{Program, HasWord, IsWithinLimits}
-use Rattle.test_lang.specs.Text.Line.{IsLine, StartsWithLine, closed, lines_of, on_first}
+use Rattle.test_lang.specs.Text.Line.{IsLine, StartsWithLine, IsInLines, closed, lines_of, on_first}
 use Rattle.test_lang.specs.Text.Grammar.{op_line, thread_lines, body_lines, test_lines, test_text, StartsWithTest}
 use Rattle.test_lang.specs.Text.Reading.{reading}
 use Rattle.test_lang.specs.Text.Refusal.{Begun, nothing, head, behind, begun_lines, IsWellBegun, IsBad, IsBadLine, Means}
@@ -16,12 +16,6 @@ use Rattle.test_lang.proofs.TextLemmas.Forms.{IsLine-head, IsLine-words, IsLine-
 use Rattle.test_lang.proofs.TextLemmas.Walking.{IsBadRest, below_256}
 use Rattle.test_lang.proofs.TextLemmas.Passing.{program, words_of-threads}
 use Rattle.test_lang.proofs.TextLemmas.LinesRead.{LinesMean, lines_mean, mean_lines}
-
--- The bytes of a text are its lines, each closed, and bytes without a line feed.
-pub record IsInLines (text : List ℕ) (lines : List (List ℕ)) (rest : List ℕ) : Type 0 where
-  pub each : AllByRecursion IsLine lines
-  pub unclosed : IsLine rest
-  pub whole : text ≡ closed lines ++ rest
 
 on_first-in_lines : (c : ℕ) (cs : List ℕ) (lines : List (List ℕ)) (rest : List ℕ) → c ≢ 10 → IsInLines cs lines rest → (more : List ℕ) × IsInLines (c ∷ cs) (on_first c lines) more
 on_first-in_lines c cs [] rest other h = (c ∷ rest, record { each = tt; unclosed = (other, h.unclosed); whole = ap (λ (ys : List ℕ). c ∷ ys) h.whole })

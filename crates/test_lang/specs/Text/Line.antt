@@ -1,5 +1,6 @@
 -- The lines of a text: each is closed by a line feed.
 use Rattle.std.specs.Prelude.{◌≡◌, ◌≢◌, ℕ, List, [], ◌∷◌, ◌++◌, Option, Some, None, ◌==◌, if◌then◌else◌}
+use Rattle.std.specs.List.{AllByRecursion}
 
 -- no line feed among the bytes
 abbrev pub IsLine : List ℕ → Type 0
@@ -33,3 +34,9 @@ on_first c (line ∷ lines) = (c ∷ line) ∷ lines
 abbrev pub lines_of : List ℕ → List (List ℕ)
 lines_of [] = []
 lines_of (c ∷ cs) = if c == 10 then [] ∷ lines_of cs else on_first c (lines_of cs)
+
+-- The bytes of a text are its lines, each closed by a line feed, and bytes without a line feed.
+pub record IsInLines (text : List ℕ) (lines : List (List ℕ)) (rest : List ℕ) : Type 0 where
+  pub each : AllByRecursion IsLine lines
+  pub unclosed : IsLine rest
+  pub whole : text ≡ closed lines ++ rest
