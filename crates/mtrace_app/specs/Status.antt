@@ -7,7 +7,7 @@ use Rattle.mtrace_app.specs.declared.status.Status.TheVariants.{Clean, Found, Wo
 abbrev pub line_of : List ℕ → List ℕ
 line_of text = text ++ 10 ∷ []
 
--- what is put to the errors with a status
+-- what is put to the errors with a status, but for a refused input, whose line names more
 abbrev pub message : Status → List ℕ
 message Clean = []
 message Found = []
@@ -19,12 +19,12 @@ message Memory = line_of (codes "mtrace: memory")
 message TooLarge = line_of (codes "mtrace: too large: bytes")
 message NotBuilt = line_of (codes "mtrace: not built")
 
--- What words with settings can be answered. So far no input has a report or a bad line.
+-- What words with settings can be answered. So far no input has a report.
 abbrev pub AnswersSettings : Status → Type 0
 AnswersSettings Clean = ⊥
 AnswersSettings Found = ⊥
 AnswersSettings Words = ⊥
-AnswersSettings Input = ⊥
+AnswersSettings Input = Unit {0}
 AnswersSettings ReadFault = Unit {0}
 AnswersSettings WriteFault = ⊥
 AnswersSettings Memory = Unit {0}

@@ -51,6 +51,11 @@ const FAILED: Row<'static> = Row {
     ..CHECK
 };
 
+const BAD_INPUT: Row<'static> = Row {
+    status: Status::Input,
+    ..CHECK
+};
+
 fn strings(alloc: Global, words: &[&str]) -> Result<Vec<String>, AllocError> {
     let mut strings = Vec::new(alloc);
     for word in words {
@@ -59,12 +64,48 @@ fn strings(alloc: Global, words: &[&str]) -> Result<Vec<String>, AllocError> {
     Ok(strings)
 }
 
-const ROWS: [Row<'static>; 15] = [
+const ROWS: [Row<'static>; 22] = [
     CHECK,
     Row { most: 1, ..CHECK },
     Row {
         input: b"",
-        ..CHECK
+        errs: b"mtrace: input line 1: NoEnd\n",
+        ..BAD_INPUT
+    },
+    Row {
+        input: b"mtest 2\n",
+        errs: b"mtrace: input line 1: BadHead\n",
+        ..BAD_INPUT
+    },
+    Row {
+        input: b"mtest 1\nwords 2\nthread\nst 0",
+        errs: b"mtrace: input line 4: NoEnd\n",
+        ..BAD_INPUT
+    },
+    Row {
+        input: b"mtest 1\nwords 2\nthread\nst 0\nld 2\nend\n",
+        errs: b"mtrace: input line 5: WordRange\n",
+        ..BAD_INPUT
+    },
+    Row {
+        input: b"mtest 1\nwords 257\n",
+        errs: b"mtrace: input line 2: BadWords\n",
+        ..BAD_INPUT
+    },
+    Row {
+        input: b"mtest 1\nwords 1\nst 0\n",
+        errs: b"mtrace: input line 3: NoThread\n",
+        ..BAD_INPUT
+    },
+    Row {
+        input: b"mtest 1\nwords 1\nthread\nld 00\n",
+        errs: b"mtrace: input line 4: BadLine\n",
+        ..BAD_INPUT
+    },
+    Row {
+        input: b"mtest 1\nwords 1\nthread\nthread\nthread\nthread\nthread\nthread\nthread\nthread\nthread\nthread\nthread\nthread\nthread\nthread\nthread\nthread\nthread\n",
+        errs: b"mtrace: input line 19: TooManyThreads\n",
+        ..BAD_INPUT
     },
     REFUSED,
     Row {
