@@ -6,3 +6,6 @@ mod run_edges;
 
 pub use kept_order::kept;
 pub use run_edges::edge;
+
+#[cfg(test)]
+mod tests;
