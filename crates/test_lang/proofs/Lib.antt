@@ -4,6 +4,7 @@ pub mod OrderTests
 pub mod Examples
 pub mod Places
 pub mod Ranks
+pub mod Nodes
 pub mod Threads
 pub mod Growth
 pub mod Rows

@@ -2,7 +2,7 @@
 use Rattle.std.proofs.Common.{◌≡◌, ◌∙◌, ℕ, zero, suc, ◌+◌, ◌<◌, ◌≤◌, ◌⊎◌, List, [], ◌∷◌, ◌++◌, take, length, get_or, Bool, true, false, cond, Some, refl, ap, arith, sym, inl, inr, ⊎_elim, length-append, append-nil}
 use Rattle.std.specs.Prelude.{count_by, filter, slice_get}
 use Rattle.std.proofs.lemmas.Bool.{cases_lt}
-use Rattle.std.proofs.lemmas.List.{take-append-le, take_all}
+use Rattle.std.proofs.lemmas.List.{take-append-le, take-take, take_all}
 use Rattle.std.proofs.lemmas.List.Elements.{filter-append}
 use Rattle.std.proofs.lemmas.List.Sums.{sum_by_push, sum_by-take-le}
 use Rattle.std.proofs.lemmas.Option.{same_Some, slice_get_past, slice_get_within, slice_get-get_or}
@@ -155,6 +155,17 @@ module _ (test : ℕ × Op → Bool) where
 
   pub passing-le : (xs : List (ℕ × Op)) (k : ℕ) → passing xs k ≤ count_by test xs
   passing-le xs k = sum_by-take-le (λ x. cond (test x) 1 0) xs k
+
+  -- a place that passes counts for those behind it
+  pub passing-rises : (xs : List (ℕ × Op)) (a b : ℕ) → passes test (slice_get xs a) ≡ true → a < b → passing xs a < passing xs b
+  passing-rises xs a b p lt =
+      let x = get_or xs a (0, Fence) in
+      let here : slice_get xs a ≡ Some x = element xs a (passes-below xs a p) in
+      let one : cond {A = ℕ} (test x) 1 0 ≡ 1 = ap (λ b. cond {A = ℕ} b 1 0) (sym (ap (passes test) here) ∙ p) in
+      let next = passing-suc xs a x here in
+      let shorter = sum_by-take-le (λ y. cond (test y) 1 0) (take b xs) (suc a) in
+      let same = ap (count_by test) (take-take (suc a) b xs (omega (arith, lt))) in
+      omega (arith, one, next, shorter, same)
 
   -- of a list that grew at its end
 

@@ -5,7 +5,7 @@ use Rattle.std.proofs.lemmas.List.Sums.{count_by-le-length}
 use Rattle.test_lang.specs.Program.{Program, nodes, op_count}
 use Rattle.test_lang.specs.Values.{is_load_at, is_store_at, load_count, store_count, load_nodes, rank_of, value_of}
 use Rattle.test_lang.specs.Tables.{store_nodes}
-use Rattle.test_lang.proofs.Places.{length-places_all, load_node, passes-below, passing-lt, passing_same, place_at, places_all-passing, store_node}
+use Rattle.test_lang.proofs.Places.{length-places_all, load_node, passes-below, passing-lt, passing-rises, passing_same, place_at, places_all-passing, store_node}
 
 -- loads
 
@@ -40,6 +40,10 @@ load_nodes_iff p rank node =
 pub one_load : (p : Program) (a b : ℕ) → IsTrue (is_load_at p a) → IsTrue (is_load_at p b) → rank_of p a ≡ rank_of p b → a ≡ b
 one_load p a b h k e = passing_same load_node (nodes p) a b h k e
 
+-- ranks rise in node order
+pub rank_of-rises : (p : Program) (a b : ℕ) → IsTrue (is_load_at p a) → a < b → rank_of p a < rank_of p b
+rank_of-rises p a b h lt = passing-rises load_node (nodes p) a b h lt
+
 -- stores
 
 pub is_store_at-below : (p : Program) (node : ℕ) → IsTrue (is_store_at p node) → node < op_count p
@@ -65,3 +69,7 @@ store_nodes-value p place node e = ap (λ (n : ℕ). n + 1) (place_at store_node
 -- two stores with one value are one node
 pub one_store : (p : Program) (a b : ℕ) → IsTrue (is_store_at p a) → IsTrue (is_store_at p b) → value_of p a ≡ value_of p b → a ≡ b
 one_store p a b h k e = passing_same store_node (nodes p) a b h k (omega (arith, e))
+
+-- values rise in node order
+pub value_of-rises : (p : Program) (a b : ℕ) → IsTrue (is_store_at p a) → a < b → value_of p a < value_of p b
+value_of-rises p a b h lt = let rises = passing-rises store_node (nodes p) a b h lt in omega (arith, rises)

@@ -8,6 +8,8 @@ use std::alloc::{AllocError, Global};
 use std::marker::Model;
 
 mod lookups;
+#[cfg(test)]
+mod tests;
 
 /// What the accessors answer of one node.
 #[derive(Clone, Copy, Debug, Drop)]

@@ -1,0 +1,4 @@
+pub mod Last
+mod Linking
+mod Ends
+mod Viewed

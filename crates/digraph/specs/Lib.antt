@@ -1,0 +1,3 @@
+pub mod Digraph
+pub mod KeyList
+pub mod Roomed

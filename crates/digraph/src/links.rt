@@ -1,0 +1,122 @@
+//! Keys in a row, each linked to the place before it that has the same key.
+ghost use Rattle.std.specs.Prelude.{◌≡◌, ◌+◌, ◌-◌, ◌<◌, ◌≤◌, [], ◌∷◌, ◌++◌, length, take, IfOk, slice_index};
+ghost use Rattle.digraph.specs.Digraph.{IsLastBelow};
+ghost use Rattle.digraph.specs.KeyList.{IsKeyList, place_of};
+
+use std::alloc::{AllocError, Global};
+use std::marker::Model;
+
+/// A link to no place.
+pub const NONE: u32 = u32::MAX;
+
+/// A list of keys below a fixed number, of fixed room. All but `with_room` and `truncate` take constant time.
+#[derive(Drop)]
+pub struct Links {
+    count: u32,
+    keys: Vec<u32>,
+    last: Vec<u32>,
+    previous: Vec<u32>,
+}
+
+impl Model for Links {
+    ghost use Rattle.std.specs.Prelude.{length, take};
+    ghost use Rattle.digraph.specs.KeyList.{KeyList, IsLinked};
+
+    ghost Value = { KeyList };
+
+    ghost view = { λ l. record { kinds = length l.last.items; room = length l.keys.items; keys = take l.count l.keys.items } };
+
+    ghost invariant = { λ l. IsLinked l.count l.keys.items l.last.items l.previous.items };
+}
+
+impl Links {
+    pub fn with_room(alloc: Global, kinds: u32, room: u32) -> Result<Links, AllocError>
+        ensures empty { IfOk result (λ links. links ≡ record { kinds = kinds; room = room; keys = [] }) }
+        ensures sound { IfOk result IsKeyList }
+    {
+        Ok(Links {
+            count: 0,
+            keys: vec![in alloc; 0u32; room as usize]?,
+            last: vec![in alloc; NONE; kinds as usize]?,
+            previous: vec![in alloc; NONE; room as usize]?,
+        })
+    }
+
+    pub fn kinds(&self) -> u32
+        ensures { result ≡ self.now.kinds }
+    {
+        self.last.len() as u32
+    }
+
+    pub fn len(&self) -> u32
+        ensures count { result ≡ length self.now.keys }
+        ensures sound { IsKeyList self.now }
+    {
+        self.count
+    }
+
+    pub fn push(&mut self, key: u32)
+        requires room { length self.old.keys < self.old.room }
+        requires key { key < self.old.kinds }
+        ensures pushed { self.new ≡ record self.old { keys = self.old.keys ++ key ∷ [] } }
+        ensures sound { IsKeyList self.new }
+    {
+        let place = self.count;
+        self.previous[place as usize] = self.last[key as usize];
+        self.last[key as usize] = place;
+        self.keys[place as usize] = key;
+        self.count = place + 1;
+    }
+
+    fn pop(&mut self)
+        requires { 0 < length self.old.keys }
+        ensures { self.new ≡ record self.old { keys = take (length self.old.keys - 1) self.old.keys } }
+    {
+        let place = self.count - 1;
+        let key = self.keys[place as usize];
+        self.last[key as usize] = self.previous[place as usize];
+        self.count = place;
+    }
+
+    /// Takes the last keys away until so many are left, in time of the number taken away.
+    pub fn truncate(&mut self, len: u32)
+        requires { len ≤ length self.old.keys }
+        ensures taken { self.new ≡ record self.old { keys = take len self.old.keys } }
+        ensures sound { IsKeyList self.new }
+    {
+        while self.len() > len {
+            self.pop();
+        }
+    }
+
+    pub fn key(&self, place: u32) -> u32
+        requires { place < length self.now.keys }
+        ensures value { result ≡ slice_index self.now.keys place }
+        ensures inside { result < self.now.kinds }
+    {
+        self.keys[place as usize]
+    }
+
+    /// The last place that has the key.
+    pub fn last(&self, key: u32) -> Option<u32>
+        requires { key < self.now.kinds }
+        ensures { IsLastBelow (slice_index self.now.keys) key (length self.now.keys) result }
+    {
+        at(self.last[key as usize])
+    }
+
+    /// The last place before this one that has the same key.
+    pub fn previous(&self, place: u32) -> Option<u32>
+        requires { place < length self.now.keys }
+        ensures { IsLastBelow (slice_index self.now.keys) (slice_index self.now.keys place) place result }
+    {
+        at(self.previous[place as usize])
+    }
+}
+
+/// The place that a link stands for.
+fn at(link: u32) -> Option<u32>
+    ensures { result ≡ place_of link }
+{
+    if link == NONE { None } else { Some(link) }
+}
