@@ -1,1 +1,6 @@
 pub mod LaterStores
+pub mod Near
+pub mod KindTables
+pub mod Beside
+pub mod Chains
+pub mod Sizes

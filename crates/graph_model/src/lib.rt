@@ -2,6 +2,7 @@
 #![tactic(auto)]
 
 mod kept_order;
+mod kinds;
 mod run_edges;
 
 pub use kept_order::kept;
