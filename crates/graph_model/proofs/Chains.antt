@@ -17,7 +17,7 @@ use Rattle.test_lang.specs.Program.{Program, nodes, op_at, op_count}
 use Rattle.test_lang.specs.Kept.{keeps, is_kept}
 use Rattle.digraph.specs.Digraph.{HasEdge}
 use Rattle.graph_model.specs.declared.kinds.Kind.{Kind}
-use Rattle.graph_model.specs.Nearest.{last_below, first_from}
+use Rattle.graph_model.specs.FirstLast.{last_below, first_from}
 use Rattle.graph_model.specs.FewKept.{is_kind, is_kind_beside, last_of_kind, next_of_kind, kinds_before, kinds_after, kinds_of, edge_from, edge_to, edges_into, edges_onward, few_kept}
 use Rattle.graph_model.proofs.Near.{last_below-some, last_found, first_from-some, first_found}
 use Rattle.graph_model.proofs.KindTables.{IsListed, Way, way, listed_kept, listed_after_kept, few_before, few_after}

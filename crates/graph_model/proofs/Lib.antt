@@ -4,3 +4,4 @@ pub mod KindTables
 pub mod Beside
 pub mod Chains
 pub mod Sizes
+pub mod Contiguous

@@ -2,7 +2,7 @@
 use Rattle.std.proofs.Common.{◌≡◌, ◌⊎◌, ℕ, zero, suc, ◌+◌, ◌<◌, ◌≤◌, Bool, true, false, cond, inl, inr, arith, refl, sym, ap, subst, ◌∙◌}
 use Rattle.std.specs.Prelude.{Option, Some, None}
 use Rattle.std.proofs.lemmas.Bool.{cases_eq}
-use Rattle.graph_model.specs.Nearest.{last_below, first_from}
+use Rattle.graph_model.specs.FirstLast.{last_below, first_from}
 
 -- what is found as the last number below n that passes, where it is the one given
 pub record IsLast (test : ℕ → Bool) (n last : ℕ) : Type 0 where

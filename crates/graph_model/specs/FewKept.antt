@@ -1,6 +1,6 @@
 -- A few kept pairs in place of all: an edge to each operation from the last one of some kinds before it in its thread, and an edge from it to the
 -- next one of some kinds.
-use Rattle.std.specs.Prelude.{ℕ, suc, ◌-◌, List, [], ◌∷◌, ◌++◌, Bool, true, not, ◌&&◌, ◌==◌, Option, Some, None}
+use Rattle.std.specs.Prelude.{ℕ, suc, ◌-◌, List, [], ◌∷◌, ◌++◌, Bool, true, not, ◌&&◌, ◌==◌, Option, Some, None, if◌then◌else◌}
 use Rattle.std.specs.List.{flat_map}
 use Rattle.orders.specs.Orders.{nodes_below}
 use Rattle.test_lang.specs.declared.op.Op.{Op}
@@ -8,10 +8,10 @@ use Rattle.test_lang.specs.declared.op.Op.TheVariants.{Load, Store, Fence}
 use Rattle.test_lang.specs.declared.op.MemModel.{MemModel}
 use Rattle.test_lang.specs.declared.op.MemModel.TheVariants.{Sc, Tso, Weak}
 use Rattle.test_lang.specs.Program.{Program, op_at, op_count, at_nodes}
-use Rattle.test_lang.specs.Values.{is_load, is_store, is_fence, same_word}
+use Rattle.test_lang.specs.Values.{is_load, is_store, is_fence, same_word, same_thread}
 use Rattle.graph_model.specs.declared.kinds.Kind.{Kind}
 use Rattle.graph_model.specs.declared.kinds.Kind.TheVariants.{Any, LoadOrFence, AnyStore, AnyFence, LoadOfWord, StoreOfWord}
-use Rattle.graph_model.specs.Nearest.{last_below, first_from}
+use Rattle.graph_model.specs.FirstLast.{last_below, first_from}
 
 -- the second operation is of the kind, which may speak of the word of the first
 abbrev pub is_kind : Kind → Op → Op → Bool
@@ -51,6 +51,11 @@ last_of_kind kind p n = last_below (is_kind_beside kind p n) n
 
 abbrev pub next_of_kind : Kind → Program → ℕ → Option ℕ
 next_of_kind kind p n = first_from (is_kind_beside kind p n) (op_count p - suc n) (suc n)
+
+-- the node that was found, where it is in the thread of n
+abbrev pub in_thread : Program → ℕ → Option ℕ → Option ℕ
+in_thread p n None = None
+in_thread p n (Some k) = if same_thread p n k then Some k else None
 
 -- an edge to n from the one node, or to the one node from n, if there is one
 

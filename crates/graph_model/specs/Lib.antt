@@ -1,2 +1,4 @@
-pub mod Nearest
+pub mod FirstLast
 pub mod FewKept
+pub mod WordTables
+pub mod NearestNodes

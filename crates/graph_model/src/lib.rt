@@ -2,7 +2,9 @@
 #![tactic(auto)]
 
 mod kept_order;
+mod few_kept;
 mod kinds;
+mod nearest;
 mod run_edges;
 
 pub use kept_order::kept;

@@ -1,4 +1,4 @@
--- The nearest number that passes a test.
+-- The last number that passes a test, and the first.
 use Rattle.std.specs.Prelude.{ℕ, zero, suc, Bool, Option, Some, None, if◌then◌else◌}
 
 -- the last number below n
