@@ -5,3 +5,4 @@ pub mod Beside
 pub mod Chains
 pub mod Sizes
 pub mod Contiguous
+pub mod Passes

@@ -9,6 +9,7 @@ use Rattle.test_lang.specs.declared.op.MemModel.{MemModel}
 use Rattle.test_lang.specs.declared.op.MemModel.TheVariants.{Sc, Tso, Weak}
 use Rattle.test_lang.specs.Program.{Program, op_at, op_count, at_nodes}
 use Rattle.test_lang.specs.Values.{is_load, is_store, is_fence, same_word, same_thread}
+use Rattle.digraph.specs.Digraph.{Digraph}
 use Rattle.graph_model.specs.declared.kinds.Kind.{Kind}
 use Rattle.graph_model.specs.declared.kinds.Kind.TheVariants.{Any, LoadOrFence, AnyStore, AnyFence, LoadOfWord, StoreOfWord}
 use Rattle.graph_model.specs.FirstLast.{last_below, first_from}
@@ -66,6 +67,10 @@ edge_from n (Some k) = (k, n) ∷ []
 abbrev pub edge_to : ℕ → Option ℕ → List (ℕ × ℕ)
 edge_to n None = []
 edge_to n (Some k) = (n, k) ∷ []
+
+-- a graph with more edges
+abbrev pub with_edges : Digraph → List (ℕ × ℕ) → Digraph
+with_edges g more = record g { edges = g.edges ++ more }
 
 -- of an operation, if there is one
 abbrev pub kinds_of : (Op → List Kind) → Option Op → List Kind

@@ -1,8 +1,8 @@
 //! The constraint graph of a run: which pairs of nodes a memory model keeps, and which edges a run adds.
 #![tactic(auto)]
 
-mod kept_order;
 mod few_kept;
+mod kept_order;
 mod kinds;
 mod nearest;
 mod run_edges;
