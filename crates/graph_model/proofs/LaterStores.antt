@@ -86,21 +86,3 @@ given_le p load value (other w writes far e) = value_le p w value (store_of_writ
 -- a load of an inside run gives at most the last value
 pub value_read-le : (p : Program) (run : List ℕ) (load : ℕ) → IsInside p run → is_load_at p load ≡ true → value_read p run load ≤ store_count p
 value_read-le p run load inside h = given_le p load (value_read p run load) (inside_candidate p run load inside h)
-
-at_op : (f : Op → Bool) (o : Option (ℕ × Op)) (op : Op) → option_map (λ (node : ℕ × Op). node.1) o ≡ Some op → passes (λ node. f node.1) o ≡ f op
-at_op f None op e = absurd cc
-at_op f (Some node) op e = let same : node.1 ≡ op = cc in ap f same
-
-pub is_load_at-op : (p : Program) (n : ℕ) (op : Op) → op_at p n ≡ Some op → is_load_at p n ≡ is_load op
-is_load_at-op p n op e = at_op is_load (slice_get (nodes p) n) op e
-
-pub is_store_at-op : (p : Program) (n : ℕ) (op : Op) → op_at p n ≡ Some op → is_store_at p n ≡ is_store op
-is_store_at-op p n op e = at_op is_store (slice_get (nodes p) n) op e
-
-at_ops : (f : Op → Op → Bool) (o q : Option (ℕ × Op)) (first second : Op) → option_map (λ (node : ℕ × Op). node.1) o ≡ Some first → option_map (λ (node : ℕ × Op). node.1) q ≡ Some second →
-    passes_after (λ x y. f x.1 y.1) o q ≡ f first second
-at_ops f None q first second e d = absurd cc
-at_ops f (Some x) q first second e d = let same : x.1 ≡ first = cc in at_op (f x.1) q second d ∙ ap (λ (op : Op). f op second) same
-
-pub one_word-ops : (p : Program) (a b : ℕ) (first second : Op) → op_at p a ≡ Some first → op_at p b ≡ Some second → one_word p a b ≡ same_word first second
-one_word-ops p a b first second e d = at_ops same_word (slice_get (nodes p) a) (slice_get (nodes p) b) first second e d

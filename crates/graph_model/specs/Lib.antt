@@ -1,0 +1,4 @@
+pub mod FirstLast
+pub mod FewKept
+pub mod WordTables
+pub mod NearestNodes

@@ -1,8 +1,14 @@
 //! The constraint graph of a run: which pairs of nodes a memory model keeps, and which edges a run adds.
 #![tactic(auto)]
 
+mod few_kept;
 mod kept_order;
+mod kinds;
+mod nearest;
 mod run_edges;
 
 pub use kept_order::kept;
 pub use run_edges::edge;
+
+#[cfg(test)]
+mod tests;

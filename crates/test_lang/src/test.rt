@@ -7,6 +7,7 @@ use crate::op::Op;
 use std::alloc::{AllocError, Global};
 use std::marker::Model;
 
+mod copies;
 mod lookups;
 #[cfg(test)]
 mod tests;

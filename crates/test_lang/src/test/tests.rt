@@ -177,6 +177,9 @@ fn lookups(rt: HostRuntime) -> Result<(), Fail> {
         check_threads(&rt, &test, case.threads, case.first_nodes);
         check_loads(&rt, &test, case.loads);
         check_stores(&rt, &test, case.stores);
+        let copy = test.clone()?;
+        assert_eq!(rt; copy.words(), case.words);
+        check_threads(&rt, &copy, case.threads, case.first_nodes);
     }
     Ok(())
 }

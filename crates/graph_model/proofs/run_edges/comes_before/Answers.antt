@@ -1,6 +1,7 @@
 use Rattle.std.proofs.Common.{◌≤◌, sym, ◌∙◌, subst, ℕ}
 use Rattle.test_lang.specs.Values.{store_count}
-use Rattle.graph_model.proofs.LaterStores.{before_of_no_load, before_no_store, before_of_initial, before_of_store, value_read-le, is_load_at-op, is_store_at-op, one_word-ops}
+use Rattle.test_lang.proofs.Nodes.{is_load_at-op, is_store_at-op, one_word-op}
+use Rattle.graph_model.proofs.LaterStores.{before_of_no_load, before_no_store, before_of_initial, before_of_store, value_read-le}
 use Rattle.graph_model.proofs.run_edges.comes_before.Goals as goal
 
 pub returns-then-not-is_load : goal.returns-then-not-is_load
@@ -24,7 +25,7 @@ returns-then-value-eq0 c =
     let p = c.args.test.now in
     let load = is_load_at-op p c.args.from c.op-first.result c.op-first.ensures.found ∙ sym c.is_load.ensures ∙ c.if-not-is_load.false in
     let store = is_store_at-op p c.args.to c.op-second.result c.op-second.ensures.found ∙ sym c.is_store.ensures ∙ c.if-not-is_store.false in
-    let word = one_word-ops p c.args.from c.args.to c.op-first.result c.op-second.result c.op-first.ensures.found c.op-second.ensures.found in
+    let word = one_word-op p c.args.from c.args.to c.op-first.result c.op-second.result c.op-first.ensures.found c.op-second.ensures.found in
     c.same_word.ensures ∙ sym word ∙ before_of_initial p c.args.run.now c.args.from c.args.to load store (sym c.value_of_load-value.ensures ∙ c.if-value-eq0.true)
 
 pub returns-else-value-eq0 : goal.returns-else-value-eq0

@@ -1,0 +1,7 @@
+use Rattle.std.proofs.Common.{◌≡◌, ℕ, take}
+use Rattle.std.specs.List.{flat_map}
+use Rattle.graph_model.specs.FewKept.{edge_to, next_of_kind, with_edges}
+use Rattle.graph_model.proofs.few_kept.add_onward.Given as goal
+
+abbrev pub invariant-loop-kind : goal.invariant-loop-kind
+invariant-loop-kind l = l.graph ≡ with_edges l.initial.graph (flat_map (λ kind. edge_to l.node (next_of_kind kind l.test l.node)) (take l.kind-index l.kinds))
