@@ -8,3 +8,5 @@ pub mod line;
 pub mod numeral;
 pub mod print;
 pub mod read;
+#[cfg(test)]
+mod tests;

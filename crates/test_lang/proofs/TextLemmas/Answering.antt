@@ -1,7 +1,6 @@
 -- What is answered is what the bytes mean.
-use Rattle.std.proofs.Common.{◌≡◌, ℕ, ◌+◌, ◌≤◌, ◌⊎◌, List, [], ◌∷◌, ◌++◌, refl, ap, arith, ◌∙◌, sym, subst, Result, Ok, Err, inl, inr, ⊎_elim, length, drop, length-append}
+use Rattle.std.proofs.Common.{◌≡◌, ℕ, ◌≤◌, ◌⊎◌, List, [], ◌∷◌, ◌++◌, refl, ap, arith, ◌∙◌, sym, subst, Result, Ok, Err, inl, inr, ⊎_elim, length, drop, length-append}
 use Rattle.std.specs.Prelude.{codes, IfOk, IfErr}
-use Rattle.std.proofs.lemmas.List.{drop-append-le, drop_all}
 use Rattle.test_lang.specs.declared.text.fault.TestFault.{TestFault}
 use Rattle.test_lang.specs.declared.text.fault.TestFault.TheVariants.{Memory}
 use Rattle.test_lang.specs.declared.text.read.ReadTest.{ReadTest}

@@ -1,13 +1,12 @@
 -- The lines of a test, and its limits, as it grows.
-use Rattle.std.proofs.Common.{◌≡◌, ◌≢◌, ℕ, zero, suc, ◌+◌, ◌<◌, ◌≤◌, List, [], ◌∷◌, ◌++◌, map, length, refl, ap, arith, ◌∙◌, sym, subst, append_assoc, append-nil, length-append}
-use Rattle.std.specs.Prelude.{codes, All, sum_by}
+use Rattle.std.proofs.Common.{◌≡◌, ℕ, zero, suc, ◌<◌, ◌≤◌, List, [], ◌∷◌, ◌++◌, length, refl, ap, arith, ◌∙◌, sym, append_assoc, append-nil, length-append}
+use Rattle.std.specs.Prelude.{codes, sum_by}
 use Rattle.std.specs.List.{flat_map}
 use Rattle.std.proofs.lemmas.List.{map-append, take_all}
 use Rattle.std.proofs.lemmas.List.Concat.{flat_map-append}
 use Rattle.std.proofs.lemmas.List.Elements.{All-append, All-cons, All-nil}
 use Rattle.test_lang.specs.declared.op.Op.{Op}
-use Rattle.test_lang.specs.declared.op.Op.TheVariants.{Load, Store, Fence}
-use Rattle.test_lang.specs.Program.{Program, empty_program, with_last, with_thread, with_op, nodes, nodes_from, op_count, HasWord, IsWithinLimits}
+use Rattle.test_lang.specs.Program.{Program, empty_program, with_last, with_thread, with_op, nodes, op_count, HasWord, IsWithinLimits}
 use Rattle.test_lang.specs.Text.Grammar.{op_line, thread_lines, body_lines}
 use Rattle.test_lang.proofs.Threads.{first_node_all}
 use Rattle.test_lang.proofs.Growth.{nodes-with_thread, nodes-with_op, threads-with_op}

@@ -1,5 +1,5 @@
 -- The form that is read of a line is the form that it has.
-use Rattle.std.proofs.Common.{◌≡◌, ◌≢◌, ℕ, ◌+◌, ◌-◌, ◌^◌, ◌<◌, ◌≤◌, ◌⊎◌, List, [], ◌∷◌, ◌++◌, Bool, true, false, ◌&&◌, refl, ap, arith, ◌∙◌, sym, subst, cond, Option, Some, None, leb, inl, inr, ⊎_elim, take, drop, length, nat_eq, append_assoc}
+use Rattle.std.proofs.Common.{◌≡◌, ℕ, ◌^◌, ◌<◌, ◌≤◌, ◌⊎◌, List, [], ◌∷◌, ◌++◌, Bool, true, false, ◌&&◌, refl, ap, arith, ◌∙◌, sym, subst, cond, Option, Some, None, leb, inl, inr, ⊎_elim, take, drop, length, nat_eq, append_assoc}
 use Rattle.std.specs.Prelude.{codes}
 use Rattle.std.specs.Option.{option_map}
 use Rattle.std.specs.Str.{bytes_eq}
@@ -13,7 +13,7 @@ use Rattle.test_lang.specs.declared.op.Op.TheVariants.{Load, Store, Fence}
 use Rattle.test_lang.specs.declared.text.form.Form.{Form}
 use Rattle.test_lang.specs.declared.text.form.Form.TheVariants.{Thread, Operation, End}
 use Rattle.test_lang.specs.Text.Line.{IsLine}
-use Rattle.test_lang.specs.Text.Numeral.{IsNumeralOf, part, whole_numeral}
+use Rattle.test_lang.specs.Text.Numeral.{part, whole_numeral}
 use Rattle.test_lang.specs.Text.Form.{IsNumbered, HasForm, form_of}
 use Rattle.test_lang.specs.Text.Grammar.{head_line, words_line, op_line}
 use Rattle.test_lang.specs.Text.Reading.{few_words, words_of}

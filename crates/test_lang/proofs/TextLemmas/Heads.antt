@@ -1,5 +1,5 @@
 -- The first two lines of a test text are read, and then the others.
-use Rattle.std.proofs.Common.{◌≡◌, ℕ, ◌+◌, ◌-◌, ◌≤◌, ◌⊎◌, List, [], ◌∷◌, ◌++◌, Bool, true, false, ap, arith, ◌∙◌, sym, subst, cond, Option, Some, None, Result, Ok, Err, inl, inr, ⊎_elim, length, append_assoc, length-append}
+use Rattle.std.proofs.Common.{◌≡◌, ℕ, ◌+◌, ◌-◌, ◌≤◌, ◌⊎◌, List, [], ◌∷◌, ◌++◌, Bool, true, false, ap, arith, ◌∙◌, sym, subst, cond, Option, Some, None, Ok, Err, inl, inr, ⊎_elim, length, append_assoc, length-append}
 use Rattle.std.specs.Prelude.{codes}
 use Rattle.std.specs.Str.{bytes_eq}
 use Rattle.std.proofs.lemmas.Slice.Eq.{bytes_eq-Decides}
@@ -8,7 +8,7 @@ use Rattle.test_lang.specs.declared.text.fault.TestFault.TheVariants.{BadHead, B
 use Rattle.test_lang.specs.declared.text.read.ReadTest.{ReadTest}
 use Rattle.test_lang.specs.Program.{Program, empty_program}
 use Rattle.test_lang.specs.Text.Line.{IsLine, StartsWithLine, closed, lines_of}
-use Rattle.test_lang.specs.Text.Grammar.{head_line, words_line, body_lines, test_lines, test_text}
+use Rattle.test_lang.specs.Text.Grammar.{head_line, words_line, body_lines, test_text}
 use Rattle.test_lang.specs.Text.Reading.{walk, words_of, behind_words, behind_head, reading_lines, reading}
 use Rattle.test_lang.specs.Text.Answer.{IsReadAs}
 use Rattle.test_lang.proofs.TextLemmas.Lines.{lines_of-line, lines_of-none}

@@ -3,7 +3,6 @@ use Rattle.std.proofs.Common.{◌≡◌, ◌≢◌, ℕ, ◌+◌, ◌<◌, ◌�
 use Rattle.std.specs.Prelude.{codes}
 use Rattle.std.specs.Str.{bytes_eq}
 use Rattle.std.proofs.lemmas.Slice.Eq.{bytes_eq-Decides}
-use Rattle.test_lang.specs.declared.op.Op.{Op}
 use Rattle.test_lang.specs.declared.text.form.Form.{Form}
 use Rattle.test_lang.specs.declared.text.form.Form.TheVariants.{Thread, Operation, End}
 use Rattle.test_lang.specs.declared.text.fault.TestFault.{TestFault}

@@ -1,16 +1,16 @@
 -- A walk goes over the lines of a test.
-use Rattle.std.proofs.Common.{◌≡◌, ◌≢◌, ℕ, suc, ◌+◌, ◌<◌, ◌≤◌, List, [], ◌∷◌, ◌++◌, map, refl, ap, arith, ◌∙◌, sym, Option, Some, Result, Ok, Err, length, append_assoc, append-nil, length-append}
-use Rattle.std.specs.Prelude.{codes, All, sum_by}
+use Rattle.std.proofs.Common.{◌≡◌, ℕ, suc, ◌+◌, ◌<◌, ◌≤◌, List, [], ◌∷◌, ◌++◌, map, refl, ap, arith, ◌∙◌, sym, Option, Some, Result, Ok, length, append_assoc, append-nil, length-append}
+use Rattle.std.specs.Prelude.{codes, sum_by}
 use Rattle.std.specs.List.{AllByRecursion, flat_map}
 use Rattle.std.proofs.lemmas.List.{length-map}
 use Rattle.std.proofs.lemmas.List.Sums.{sum_by-cons, sum_by-append}
 use Rattle.std.proofs.lemmas.List.Elements.{recursion_from_All}
 use Rattle.test_lang.specs.declared.op.Op.{Op}
 use Rattle.test_lang.specs.declared.text.form.Form.{Form}
-use Rattle.test_lang.specs.declared.text.form.Form.TheVariants.{Thread, Operation, End}
+use Rattle.test_lang.specs.declared.text.form.Form.TheVariants.{Thread, Operation}
 use Rattle.test_lang.specs.declared.text.fault.TestFault.{TestFault}
 use Rattle.test_lang.specs.Program.{Program, empty_program, with_last, nodes_from, op_count, HasWord, IsWithinLimits}
-use Rattle.test_lang.specs.Text.Form.{HasForm, form_of}
+use Rattle.test_lang.specs.Text.Form.{HasForm}
 use Rattle.test_lang.specs.Text.Grammar.{op_line, thread_lines, body_lines}
 use Rattle.test_lang.specs.Text.Reading.{judged, go_on, walk}
 use Rattle.test_lang.proofs.TextLemmas.Forms.{has-form_of, op_line-form}

@@ -1,5 +1,5 @@
 -- How the text of a test is printed, operation by operation and thread by thread.
-use Rattle.std.proofs.Common.{◌≡◌, ℕ, zero, suc, ◌+◌, ◌<◌, List, [], ◌∷◌, ◌++◌, map, take, length, get_or, Option, Some, refl, ap, arith, ◌∙◌, sym, append_assoc, append-nil, add-one}
+use Rattle.std.proofs.Common.{◌≡◌, ℕ, zero, suc, ◌+◌, ◌<◌, List, [], ◌∷◌, ◌++◌, map, take, length, get_or, Some, ap, arith, ◌∙◌, sym, append_assoc, append-nil, add-one}
 use Rattle.std.specs.Prelude.{codes, sum_by, slice_get}
 use Rattle.std.specs.List.{flat_map}
 use Rattle.std.specs.Option.{option_map}

@@ -12,7 +12,7 @@ use Rattle.test_lang.specs.declared.text.form.Form.{Form}
 use Rattle.test_lang.specs.declared.text.form.Form.TheVariants.{Thread, Operation, End}
 use Rattle.test_lang.specs.declared.text.fault.TestFault.{TestFault}
 use Rattle.test_lang.specs.declared.text.fault.TestFault.TheVariants.{NoEnd}
-use Rattle.test_lang.specs.Program.{Program, empty_program, with_thread, with_op, op_count, HasWord, IsWithinLimits}
+use Rattle.test_lang.specs.Program.{Program, empty_program, with_thread, with_op, op_count, IsWithinLimits}
 use Rattle.test_lang.specs.Text.Line.{IsLine, StartsWithLine, closed, lines_of}
 use Rattle.test_lang.specs.Text.Form.{form_of, held_word, held_form}
 use Rattle.test_lang.specs.Text.Grammar.{op_line, thread_lines, body_lines}

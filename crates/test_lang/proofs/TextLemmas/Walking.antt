@@ -1,5 +1,5 @@
 -- What a walk over lines gives is what the lines mean.
-use Rattle.std.proofs.Common.{◌≡◌, ◌≢◌, ℕ, ◌+◌, ◌<◌, ◌≤◌, List, [], ◌∷◌, ◌++◌, refl, ap, arith, ◌∙◌, sym, Option, Some, None, Result, Ok, Err, length, append_assoc, append-nil, length-append}
+use Rattle.std.proofs.Common.{◌≡◌, ℕ, ◌+◌, ◌<◌, ◌≤◌, List, [], ◌∷◌, ◌++◌, refl, ap, arith, ◌∙◌, sym, Some, None, Result, Ok, Err, length, append_assoc, length-append}
 use Rattle.std.specs.Prelude.{codes}
 use Rattle.test_lang.specs.declared.op.Op.{Op}
 use Rattle.test_lang.specs.declared.op.Op.TheVariants.{Load, Store, Fence}
@@ -7,8 +7,8 @@ use Rattle.test_lang.specs.declared.text.form.Form.{Form}
 use Rattle.test_lang.specs.declared.text.form.Form.TheVariants.{Thread, Operation, End}
 use Rattle.test_lang.specs.declared.text.fault.TestFault.{TestFault}
 use Rattle.test_lang.specs.declared.text.fault.TestFault.TheVariants.{BadHead, BadWords, BadLine, WordRange, TooManyThreads, TooManyOps, NoThread, NoEnd, Memory}
-use Rattle.test_lang.specs.Program.{Program, with_thread, with_op, op_count, HasWord, IsWithinLimits}
-use Rattle.test_lang.specs.Text.Form.{HasForm, form_of}
+use Rattle.test_lang.specs.Program.{Program, with_thread, with_op, HasWord, IsWithinLimits}
+use Rattle.test_lang.specs.Text.Form.{form_of}
 use Rattle.test_lang.specs.Text.Grammar.{op_line, body_lines}
 use Rattle.test_lang.specs.Text.Reading.{judged, go_on, walk}
 use Rattle.test_lang.specs.Text.Refusal.{Begun, behind, IsBadLine, number_of}

@@ -1,5 +1,5 @@
 -- Numerals of any length, and the numbers that they spell.
-use Rattle.std.specs.Prelude.{◌≡◌, ℕ, ◌+◌, ◌-◌, ◌*◌, ◌^◌, ◌≤◌, ◌⊎◌, List, [], ◌∷◌, ◌++◌, Bool, false, Option, Some, None, ◌==◌, if◌then◌else◌, min}
+use Rattle.std.specs.Prelude.{◌≡◌, ℕ, ◌+◌, ◌-◌, ◌*◌, ◌^◌, ◌≤◌, ◌⊎◌, List, [], ◌∷◌, ◌++◌, false, Option, Some, None, ◌==◌, if◌then◌else◌, min}
 use Rattle.std.specs.Char.{is_ascii_digit}
 
 abbrev pub AreDigits : List ℕ → Type 0

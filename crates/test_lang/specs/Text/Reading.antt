@@ -1,8 +1,7 @@
 -- What reading a text as a test gives: the test, or the refusal of the first bad line.
-use Rattle.std.specs.Prelude.{ℕ, ◌+◌, List, [], ◌∷◌, Bool, true, false, not, ◌&&◌, ◌==◌, nat_eq, nat_lt, nat_le, Option, Some, None, Result, Ok, Err, if◌then◌else◌, length, drop, codes}
+use Rattle.std.specs.Prelude.{ℕ, ◌+◌, List, [], ◌∷◌, Bool, true, false, not, ◌&&◌, ◌==◌, nat_eq, nat_le, Option, Some, None, Result, Ok, Err, if◌then◌else◌, length, drop, codes}
 use Rattle.std.specs.Str.{bytes_eq}
 use Rattle.std.specs.List.{starts_with}
-use Rattle.test_lang.specs.declared.op.Op.{Op}
 use Rattle.test_lang.specs.declared.op.Op.TheVariants.{Load, Store, Fence}
 use Rattle.test_lang.specs.declared.text.form.Form.{Form}
 use Rattle.test_lang.specs.declared.text.form.Form.TheVariants.{Thread, Operation, End}

@@ -36,16 +36,10 @@ pub fn read_form(line: &[u8]) -> Option<Form>
         Some(Form::Operation(Op::Fence))
     } else if line == b"end".as_slice() {
         Some(Form::End)
-    } else if line.starts_with(b"ld ") {
-        match read_word(&line[3..]) {
-            Some(word) => Some(Form::Operation(Op::Load { word })),
-            None => None,
-        }
-    } else if line.starts_with(b"st ") {
-        match read_word(&line[3..]) {
-            Some(word) => Some(Form::Operation(Op::Store { word })),
-            None => None,
-        }
+    } else if let Some(numeral) = line.strip_prefix(b"ld ") {
+        read_word(numeral).map(|word| Form::Operation(Op::Load { word }))
+    } else if let Some(numeral) = line.strip_prefix(b"st ") {
+        read_word(numeral).map(|word| Form::Operation(Op::Store { word }))
     } else {
         None
     }

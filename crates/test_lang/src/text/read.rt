@@ -32,10 +32,7 @@ pub struct ReadTest {
 fn read_words(line: &[u8]) -> Option<u32>
     ensures { result ≡ words_of line.now }
 {
-    if !line.starts_with(b"words ") {
-        return None;
-    }
-    match whole_numeral(&line[6..]) {
+    match whole_numeral(line.strip_prefix(b"words ")?) {
         Some(words) if 1 <= words && words <= 256 => Some(words as u32),
         _ => None,
     }

@@ -1,5 +1,4 @@
-use Rattle.std.proofs.Common.{◌≡◌, sym, ◌∙◌, Ok}
-use Rattle.test_lang.specs.Text.Reading.{reading}
+use Rattle.std.proofs.Common.{sym, ◌∙◌, Ok}
 use Rattle.test_lang.proofs.TextLemmas.Readings.{means_reading}
 use Rattle.test_lang.proofs.text.laws.one_test.Goals as goal
 

@@ -1,4 +1,4 @@
-use Rattle.std.proofs.Common.{ap, ◌∙◌, [], ◌∷◌, ◌++◌, List, ℕ}
+use Rattle.std.proofs.Common.{ap, ◌∙◌, ◌++◌, List, ℕ}
 use Rattle.std.proofs.lemmas.List.{append-nil}
 use Rattle.test_lang.specs.Text.Line.{lines_of}
 use Rattle.test_lang.proofs.TextLemmas.Lines.{lines_of-closed, lines_of-none}

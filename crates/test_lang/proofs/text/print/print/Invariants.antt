@@ -1,4 +1,4 @@
-use Rattle.std.proofs.Common.{◌≡◌, [], ◌∷◌, ◌++◌, take}
+use Rattle.std.proofs.Common.{◌≡◌, ◌∷◌, take}
 use Rattle.std.specs.List.{flat_map}
 use Rattle.test_lang.specs.Text.Line.{closed}
 use Rattle.test_lang.specs.Text.Grammar.{head_line, words_line, thread_lines}

@@ -1,5 +1,3 @@
-use Rattle.std.proofs.Common.{ap, ◌∙◌, sym, ◌+◌}
-use Rattle.test_lang.specs.Program.{op_at}
 use Rattle.test_lang.proofs.TextLemmas.Printing.{thread_op, printed-op}
 use Rattle.test_lang.proofs.text.print.push_thread.Goals as goal
 

@@ -1,8 +1,7 @@
-use Rattle.std.proofs.Common.{◌≡◌, ◌+◌, arith, ap, sym, ◌∙◌, inl, inr, Ok, Err, subst}
+use Rattle.std.proofs.Common.{◌+◌, arith, ap, sym, ◌∙◌, inr, Ok, subst}
 use Rattle.std.proofs.lemmas.Result.{err_from_is_err_and}
 use Rattle.test_lang.specs.declared.text.form.Form.{Form}
-use Rattle.test_lang.specs.declared.text.form.Form.TheVariants.{Thread, Operation}
-use Rattle.test_lang.specs.Program.{Program, with_thread, with_op}
+use Rattle.test_lang.specs.Program.{Program}
 use Rattle.test_lang.proofs.TextLemmas.SoFar.{SoFar, few_lines, so_far-unclosed, so_far-refused, so_far-ended, so_far-end_line, so_far-thread, so_far-operation}
 use Rattle.test_lang.proofs.text.read.read_body.Goals as goal
 use Rattle.test_lang.proofs.text.read.read_body.Goals.{in-Thread+in_ok-add_thread-in-Thread, in-Operation+in_ok-add_op-in-Operation}

@@ -1,8 +1,7 @@
-use Rattle.std.proofs.Common.{◌≡◌, true, false, arith, refl, sym, inr, Ok, subst}
+use Rattle.std.proofs.Common.{◌≡◌, true, false, arith, refl, inr}
 use Rattle.std.specs.Str.{bytes_eq}
 use Rattle.std.proofs.lemmas.Result.{err_from_is_err_and}
 use Rattle.test_lang.specs.Text.Grammar.{head_line}
-use Rattle.test_lang.specs.Text.Answer.{Answers}
 use Rattle.test_lang.proofs.TextLemmas.Heads.{reading-unclosed, reading-no_head, reading-unclosed_words, reading-no_words, reading-refused, reading-test, is_read_as}
 use Rattle.test_lang.proofs.text.read.read_test.Goals as goal
 
