@@ -1,0 +1,10 @@
+pub mod Reading
+pub mod Keeping
+pub mod Steps
+pub mod Judging
+pub mod Spelling
+pub mod RunForms
+pub mod Meaning
+pub mod Ended
+pub mod Turns
+pub mod Runs

@@ -1,0 +1,6 @@
+pub mod Parts
+pub mod Found
+pub mod RunLine
+pub mod Reader
+pub mod Grammar
+pub mod Runs

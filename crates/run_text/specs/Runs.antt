@@ -1,0 +1,69 @@
+-- The text of all runs, and what reading all of a text gives.
+use Rattle.std.specs.Prelude.{◌≡◌, ℕ, zero, suc, ◌+◌, ◌^◌, ◌<◌, List, [], ◌∷◌, ◌++◌, map, length, false, Result, Ok, Err, if◌then◌else◌, codes}
+use Rattle.std.specs.Fmt.{decimal}
+use Rattle.std.specs.List.{AllByRecursion, flat_map}
+use Rattle.test_lang.specs.Text.Line.{closed}
+use Rattle.test_lang.specs.Text.Numeral.{part}
+use Rattle.run_text.specs.declared.fault.RunFault.{RunFault}
+use Rattle.run_text.specs.Reader.{Reader, Turn, turn}
+use Rattle.run_text.specs.Grammar.{Means}
+
+-- as many values as there are loads, each below 2^32
+pub record IsRunOf (loads : ℕ) (run : List ℕ) : Type 0 where
+  pub count : length run ≡ loads
+  pub values : AllByRecursion (λ v. v < 2 ^ 32) run
+
+abbrev pub AreRunsOf : ℕ → List (List ℕ) → Type 0
+AreRunsOf loads runs = AllByRecursion (IsRunOf loads) runs
+
+-- the line of a run
+abbrev pub line_of : List ℕ → List ℕ
+line_of run = codes "run" ++ flat_map (λ v. part (decimal v)) run
+
+-- The text of these runs: the line of each, and then `done`.
+abbrev pub runs_text : List (List ℕ) → List ℕ
+runs_text runs = closed (map line_of runs ++ codes "done" ∷ [])
+
+-- Reading, call by call.
+
+abbrev pub with_run : List ℕ → Result (List (List ℕ)) RunFault → Result (List (List ℕ)) RunFault
+with_run run (Ok runs) = Ok (run ∷ runs)
+with_run run (Err fault) = Err fault
+
+-- these runs, and behind them what is read
+abbrev pub with_runs : List (List ℕ) → Result (List (List ℕ)) RunFault → Result (List (List ℕ)) RunFault
+with_runs [] read = read
+with_runs (run ∷ runs) read = with_run run (with_runs runs read)
+
+-- what is read by a call that gives this, and by reading on behind it
+abbrev pub go_on : (Reader → Result (List (List ℕ)) RunFault) → Result Turn RunFault → Result (List (List ℕ)) RunFault
+go_on more (Err fault) = Err fault
+go_on more (Ok t) = if t.more then with_run t.values (more t.reader) else Ok []
+
+-- what is read by so many calls
+abbrev pub reading_by : ℕ → Reader → Result (List (List ℕ)) RunFault
+reading_by zero r = Ok []
+reading_by (suc calls) r = go_on (reading_by calls) (turn r)
+
+-- What reading all lines gives: the runs up to `done`, or the refusal of the first bad line. Each call but the last reads a byte at least.
+abbrev pub reading : Reader → Result (List (List ℕ)) RunFault
+reading r = reading_by (suc (length r.left)) r
+
+-- Meaning, in the words of the format.
+
+-- the reader behind so many lines
+abbrev pub behind_lines : Reader → ℕ → List ℕ → Reader
+behind_lines r lines left = record { left = left; line = r.line + lines; loads = r.loads; is_done = false }
+
+-- Good runs, and bytes behind them whose first line is bad.
+pub record IsRefused (r : Reader) (fault : RunFault) : Type 0 where
+  pub runs : List (List ℕ)
+  pub bytes : List ℕ
+  pub good : AreRunsOf r.loads runs
+  pub whole : r.left ≡ closed (map line_of runs) ++ bytes
+  pub bad : Means (behind_lines r (length runs) bytes) (Err fault)
+
+-- What a text means: it is the text of these runs, or is refused.
+abbrev pub RunsMean : Reader → Result (List (List ℕ)) RunFault → Type 0
+RunsMean r (Ok runs) = AreRunsOf r.loads runs × (r.left ≡ runs_text runs)
+RunsMean r (Err fault) = IsRefused r fault

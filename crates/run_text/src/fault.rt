@@ -1,0 +1,28 @@
+//! How a text of runs is refused.
+
+use thiserror::Error;
+
+/// The refusal of a text of runs: that of its first bad line, whose number counts from the first line of the input. On
+/// one line the first refusal that applies is given, in this order: `NoDone`, `BadRunLine`, `WrongCount`, `ValueRange`;
+/// behind `done` there is only `AfterDone`.
+#[derive(Clone, Copy, PartialEq, Eq, Debug, Drop, Error)]
+pub enum RunFault {
+    /// The line is neither `done`, nor `run` followed by parts that are each one space and a numeral.
+    #[error("line {line}: expected `done`, or `run` and numbers")]
+    BadRunLine { line: u32 },
+    /// A run line has `got` values, and the test has `want` loads.
+    #[error("line {line}: expected {want} values, got {got}")]
+    WrongCount { line: u32, want: u32, got: u32 },
+    /// A value is above 4294967295.
+    #[error("line {line}: a value is too large")]
+    ValueRange { line: u32 },
+    /// No line feed closes the line.
+    #[error("line {line}: the text ends before `done`")]
+    NoDone { line: u32 },
+    /// A byte stands behind `done`.
+    #[error("line {line}: more text behind `done`")]
+    AfterDone { line: u32 },
+    /// Want of memory.
+    #[error("out of memory")]
+    Memory,
+}

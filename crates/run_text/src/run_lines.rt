@@ -1,0 +1,104 @@
+//! A reader of run lines, up to the line `done`: one pass over the bytes, and no memory but that of the values.
+ghost use Rattle.std.specs.Prelude.{◌≡◌, ◌≢◌, ◌+◌, ◌^◌, ◌<◌, [], Result, Ok, false, length, OnOk, IfErr};
+ghost use Rattle.std.specs.Bool.{OnFalse, OnTrue};
+ghost use Rattle.run_text.specs.declared.fault.RunFault.{RunFault};
+ghost use Rattle.run_text.specs.declared.fault.RunFault.TheVariants.{AfterDone};
+ghost use Rattle.run_text.specs.Reader.{Turn, Gives, turn};
+ghost use Rattle.run_text.specs.Grammar.{Means};
+
+use crate::fault::RunFault;
+use crate::run_line::read_run;
+use std::marker::Model;
+use test_lang::text::line::first_line;
+
+/// The run lines of a text, each with as many values as a test has loads.
+#[derive(Drop)]
+pub struct RunLines<'a> {
+    left: &'a [u8],
+    line: u32,
+    loads: u32,
+    is_done: bool,
+}
+
+impl<'a> Model for RunLines<'a> {
+    ghost use Rattle.std.specs.Prelude.{◌+◌, ◌^◌, ◌<◌, length};
+    ghost use Rattle.run_text.specs.Reader.{Reader};
+
+    ghost Value = { Reader };
+
+    ghost view = { λ lines. record { left = lines.left.now; line = lines.line; loads = lines.loads; is_done = lines.is_done } };
+
+    ghost invariant = { λ lines. lines.line + length lines.left.now < 2 ^ 32 };
+}
+
+/// Nothing stands behind the text, whose last line has the number before this one.
+pub fn nothing_after(bytes: &[u8], line: u32) -> Result<(), RunFault>
+    ensures ok { OnOk result (bytes.now ≡ []) }
+    ensures refused { IfErr result (λ fault. (fault ≡ AfterDone line) × (bytes.now ≢ [])) }
+{
+    if bytes.is_empty() {
+        Ok(())
+    } else {
+        Err(RunFault::AfterDone { line })
+    }
+}
+
+impl<'a> RunLines<'a> {
+    /// The reader of a text whose first line has this number, behind a test with so many loads.
+    pub fn new(bytes: &'a [u8], line: u32, loads: u32) -> RunLines<'a>
+        requires { line + length bytes.now < 2 ^ 32 }
+        ensures { result ≡ record { left = bytes.entry.now; line = line; loads = loads; is_done = false } }
+    {
+        RunLines {
+            left: bytes,
+            line,
+            loads,
+            is_done: false,
+        }
+    }
+
+    /// The number of the line that comes next.
+    pub fn line(&self) -> u32
+        ensures { result ≡ self.now.line }
+    {
+        self.line
+    }
+
+    /// Reads the next line. `true`: it was a run line, and its values were appended. `false`: it was `done`, and nothing
+    /// stands behind it. A refusal changes nothing.
+    pub fn next(&mut self, values: &mut Vec<u32>) -> Result<bool, RunFault>
+        // What a call gives is a function of the reader, unless memory runs out.
+        ensures exact { Gives result values.old.items values.new.items self.old self.new (turn self.old) }
+        // What is given is what the lines mean.
+        ensures found { OnFalse self.old.is_done ((meant : Result Turn RunFault) × Means self.old meant × Gives result values.old.items values.new.items self.old self.new meant) }
+        // What the lines mean is given, unless memory runs out.
+        ensures only { OnFalse self.old.is_done ((meant : Result Turn RunFault) → Means self.old meant → Gives result values.old.items values.new.items self.old self.new meant) }
+        // After `done` each call answers `false`, and changes nothing.
+        ensures ended { OnTrue self.old.is_done ((result ≡ Ok false) × (values.new.items ≡ values.old.items) × (self.new ≡ self.old)) }
+    {
+        self.step(values)
+    }
+
+    fn step(&mut self, values: &mut Vec<u32>) -> Result<bool, RunFault>
+        ensures ended { OnTrue self.old.is_done (result ≡ Ok false) }
+        ensures exact { Gives result values.old.items values.new.items self.old self.new (turn self.old) }
+    {
+        if self.is_done {
+            return Ok(false);
+        }
+        let Some((line, rest)) = first_line(self.left) else {
+            return Err(RunFault::NoDone { line: self.line });
+        };
+        if line == b"done".as_slice() {
+            nothing_after(rest, self.line + 1)?;
+            self.left = rest;
+            self.line += 1;
+            self.is_done = true;
+            return Ok(false);
+        }
+        read_run(line, self.line, self.loads, values)?;
+        self.left = rest;
+        self.line += 1;
+        Ok(true)
+    }
+}
