@@ -8,3 +8,4 @@ pub mod Meaning
 pub mod Ended
 pub mod Turns
 pub mod Runs
+pub mod Calls

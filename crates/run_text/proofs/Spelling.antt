@@ -13,7 +13,6 @@ front_some : (n : ℕ) (o : Option (List ℕ)) (vs : List ℕ) → with_front n 
 front_some n None vs e = absurd cc
 front_some n (Some ws) vs e = (ws, refl, cc)
 
-
 -- The bytes from a place on spell the values.
 abbrev Spells : Place → List ℕ → List ℕ → Type 0
 Spells gap xs vs = (ns : List (List ℕ)) × AreNumerals ns × (xs ≡ flat_map part ns) × (vs ≡ values_of ns)

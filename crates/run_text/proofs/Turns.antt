@@ -2,9 +2,10 @@
 use Rattle.std.proofs.Common.{◌≡◌, ℕ, suc, ◌+◌, ◌^◌, ◌<◌, List, [], ◌∷◌, ◌++◌, Bool, true, false, refl, ap, arith, ◌∙◌, sym, subst, map, Result, Ok, Err, inl, inr, ⊎_elim, length, length-append}
 use Rattle.std.specs.Prelude.{codes}
 use Rattle.std.specs.Fmt.{decimal}
-use Rattle.std.specs.List.{AllByRecursion, flat_map}
+use Rattle.std.specs.List.{All, flat_map}
 use Rattle.std.proofs.lemmas.List.{length-map}
-use Rattle.test_lang.specs.Text.Numeral.{value, part}
+use Rattle.std.proofs.lemmas.List.Elements.{All-nil, All-cons, All-head, All-tail}
+use Rattle.test_lang.specs.Text.Numeral.{value, IsNumeralOf, part}
 use Rattle.test_lang.proofs.TextLemmas.Numerals.{numeral-is_decimal, decimal-numeral}
 use Rattle.run_text.specs.declared.fault.RunFault.{RunFault}
 use Rattle.run_text.specs.Reader.{Reader, Turn, behind, turn}
@@ -21,28 +22,40 @@ parts-decimal (n ∷ ns) h fit =
     let is : n ≡ decimal (value n) = numeral-is_decimal n (value n) (record { numeral = h.0; number = refl }) (omega (arith, fit.0)) in
     ap (λ (ys : List ℕ). part ys ++ flat_map part ns) is ∙ ap (λ (ys : List ℕ). part (decimal (value n)) ++ ys) (parts-decimal ns h.1 fit.1)
 
-values-small : (ns : List (List ℕ)) → AllFit ns → AllByRecursion (λ v. v < 2 ^ 32) (values_of ns)
-values-small [] fit = tt
-values-small (n ∷ ns) fit = (fit.0, values-small ns fit.1)
+abbrev IsSmall : ℕ → Type 0
+IsSmall v = v < 2 ^ 32
 
+values-small : (ns : List (List ℕ)) → AllFit ns → All IsSmall (values_of ns)
+values-small [] fit = All-nil IsSmall
+values-small (n ∷ ns) fit = All-cons IsSmall (value n) (values_of ns) fit.0 (values-small ns fit.1)
 
-numerals_of-numerals : (run : List ℕ) → AllByRecursion (λ v. v < 2 ^ 32) run → AreNumerals (map decimal run)
-numerals_of-numerals [] h = tt
-numerals_of-numerals (v ∷ vs) h = let is = decimal-numeral v (omega (arith, h.0)) in (is.numeral, numerals_of-numerals vs h.1)
+module _ (v : ℕ) (vs : List ℕ) (h : All IsSmall (v ∷ vs)) where
+  decimal-first : IsNumeralOf v (decimal v)
+  decimal-first = let small : v < 2 ^ 32 = All-head IsSmall v vs h in decimal-numeral v (omega (arith, small))
 
-numerals_of-values : (run : List ℕ) → AllByRecursion (λ v. v < 2 ^ 32) run → values_of (map decimal run) ≡ run
-numerals_of-values [] h = refl
-numerals_of-values (v ∷ vs) h =
-    let is = decimal-numeral v (omega (arith, h.0)) in
-    ap (λ (n : ℕ). n ∷ values_of (map decimal vs)) is.number ∙ ap (λ (ys : List ℕ). v ∷ ys) (numerals_of-values vs h.1)
+  small-first : value (decimal v) < 2 ^ 32
+  small-first = let small : v < 2 ^ 32 = All-head IsSmall v vs h in omega (arith, small, decimal-first.number)
 
-numerals_of-fit : (run : List ℕ) → AllByRecursion (λ v. v < 2 ^ 32) run → AllFit (map decimal run)
-numerals_of-fit [] h = tt
-numerals_of-fit (v ∷ vs) h = let is = decimal-numeral v (omega (arith, h.0)) in (omega (arith, h.0, is.number), numerals_of-fit vs h.1)
+  small-rest : All IsSmall vs
+  small-rest = All-tail IsSmall v vs h
 
-numerals_of-parts : (run : List ℕ) → flat_map part (map decimal run) ≡ flat_map (λ v. part (decimal v)) run
-numerals_of-parts [] = refl
-numerals_of-parts (v ∷ vs) = ap (λ (ys : List ℕ). part (decimal v) ++ ys) (numerals_of-parts vs)
+decimals-numerals : (run : List ℕ) → All IsSmall run → AreNumerals (map decimal run)
+decimals-numerals [] h = tt
+decimals-numerals (v ∷ vs) h = let is = decimal-first v vs h in (is.numeral, decimals-numerals vs (small-rest v vs h))
+
+decimals-values : (run : List ℕ) → All IsSmall run → values_of (map decimal run) ≡ run
+decimals-values [] h = refl
+decimals-values (v ∷ vs) h =
+    let is = decimal-first v vs h in
+    ap (λ (n : ℕ). n ∷ values_of (map decimal vs)) is.number ∙ ap (λ (ys : List ℕ). v ∷ ys) (decimals-values vs (small-rest v vs h))
+
+decimals-fit : (run : List ℕ) → All IsSmall run → AllFit (map decimal run)
+decimals-fit [] h = tt
+decimals-fit (v ∷ vs) h = (small-first v vs h, decimals-fit vs (small-rest v vs h))
+
+decimals-parts : (run : List ℕ) → flat_map part (map decimal run) ≡ flat_map (λ v. part (decimal v)) run
+decimals-parts [] = refl
+decimals-parts (v ∷ vs) = ap (λ (ys : List ℕ). part (decimal v) ++ ys) (decimals-parts vs)
 
 -- The next line is that of a run with as many values as there are loads.
 pub record IsRunNext (r : Reader) (t : Turn) : Type 0 where
@@ -56,7 +69,7 @@ run-next r t not_done (ns, rest, h) =
     let many : length (values_of ns) ≡ length ns = simp length-map in
     subst (IsRunNext r) (sym h.turn) (record {
       not_done = not_done;
-      run = record { count = many ∙ h.count; values = values-small ns h.fit };
+      run = record { whole = many ∙ h.count; values = values-small ns h.fit };
       whole = h.line.whole ∙ ap (λ (ys : List ℕ). (codes "run" ++ ys) ++ 10 ∷ rest) (parts-decimal ns h.line.numerals h.fit);
       reader = refl;
     })
@@ -104,12 +117,12 @@ run-turn r run rest not_done h whole =
       rest,
       record {
         line = record {
-          numerals = numerals_of-numerals run h.values;
-          whole = whole ∙ ap (λ (ys : List ℕ). (codes "run" ++ ys) ++ 10 ∷ rest) (sym (numerals_of-parts run));
+          numerals = decimals-numerals run h.values;
+          whole = whole ∙ ap (λ (ys : List ℕ). (codes "run" ++ ys) ++ 10 ∷ rest) (sym (decimals-parts run));
         };
-        count = many ∙ h.count;
-        fit = numerals_of-fit run h.values;
-        turn = ap (λ (ys : List ℕ). record { more = true; values = ys; reader = behind r rest false }) (sym (numerals_of-values run h.values));
+        count = many ∙ h.whole;
+        fit = decimals-fit run h.values;
+        turn = ap (λ (ys : List ℕ). record { more = true; values = ys; reader = behind r rest false }) (sym (decimals-values run h.values));
       },
     ))
 

@@ -1,17 +1,18 @@
 -- The text of all runs, and what reading all of a text gives.
-use Rattle.std.specs.Prelude.{◌≡◌, ℕ, zero, suc, ◌+◌, ◌^◌, ◌<◌, List, [], ◌∷◌, ◌++◌, map, length, false, Result, Ok, Err, if◌then◌else◌, codes}
+use Rattle.std.specs.Prelude.{◌≡◌, ◌⊎◌, ℕ, zero, suc, ◌+◌, ◌^◌, ◌<◌, List, [], ◌∷◌, ◌++◌, All, map, length, Bool, true, false, Result, Ok, Err, if◌then◌else◌, codes}
 use Rattle.std.specs.Fmt.{decimal}
 use Rattle.std.specs.List.{AllByRecursion, flat_map}
 use Rattle.test_lang.specs.Text.Line.{closed}
 use Rattle.test_lang.specs.Text.Numeral.{part}
 use Rattle.run_text.specs.declared.fault.RunFault.{RunFault}
-use Rattle.run_text.specs.Reader.{Reader, Turn, turn}
+use Rattle.run_text.specs.declared.fault.RunFault.TheVariants.{Memory}
+use Rattle.run_text.specs.Reader.{Reader, Turn, behind, turn}
 use Rattle.run_text.specs.Grammar.{Means}
 
 -- as many values as there are loads, each below 2^32
 pub record IsRunOf (loads : ℕ) (run : List ℕ) : Type 0 where
-  pub count : length run ≡ loads
-  pub values : AllByRecursion (λ v. v < 2 ^ 32) run
+  pub whole : length run ≡ loads
+  pub values : All (λ v. v < 2 ^ 32) run
 
 abbrev pub AreRunsOf : ℕ → List (List ℕ) → Type 0
 AreRunsOf loads runs = AllByRecursion (IsRunOf loads) runs
@@ -48,6 +49,21 @@ reading_by (suc calls) r = go_on (reading_by calls) (turn r)
 -- What reading all lines gives: the runs up to `done`, or the refusal of the first bad line. Each call but the last reads a byte at least.
 abbrev pub reading : Reader → Result (List (List ℕ)) RunFault
 reading r = reading_by (suc (length r.left)) r
+
+-- A run line was read: the run stands behind the old values, and what is read in all is this run and then what is read behind it.
+pub record IsRunRead (before after : Reader) (old new : List ℕ) : Type 0 where
+  pub run : List ℕ
+  pub is_run : IsRunOf before.loads run
+  pub values : new ≡ old ++ run
+  pub reader : after ≡ behind before after.left false
+  pub shorter : length after.left < length before.left
+  pub in_all : reading before ≡ with_run run (reading after)
+
+-- What a call tells of reading all lines.
+abbrev pub ReadsOn : Result Bool RunFault → List ℕ → List ℕ → Reader → Reader → Type 0
+ReadsOn (Ok true) old new before after = IsRunRead before after old new
+ReadsOn (Ok false) old new before after = reading before ≡ Ok []
+ReadsOn (Err fault) old new before after = (fault ≡ Memory) ⊎ (reading before ≡ Err fault)
 
 -- Meaning, in the words of the format.
 

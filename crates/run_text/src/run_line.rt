@@ -21,12 +21,7 @@ fn find_values(line: &[u8], want: u32, values: &mut Vec<u32>) -> Result<Option<F
 }
 
 /// Appends the values of a run line. A refusal changes nothing.
-pub fn read_run(
-    line: &[u8],
-    number: u32,
-    want: u32,
-    values: &mut Vec<u32>,
-) -> Result<(), RunFault>
+pub fn read_run(line: &[u8], number: u32, want: u32, values: &mut Vec<u32>) -> Result<(), RunFault>
     requires short { length line.now < 2 ^ 32 }
     ensures { Appends values.old.items result values.new.items (run_of number want line.now) }
 {

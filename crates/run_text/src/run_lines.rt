@@ -5,6 +5,7 @@ ghost use Rattle.run_text.specs.declared.fault.RunFault.{RunFault};
 ghost use Rattle.run_text.specs.declared.fault.RunFault.TheVariants.{AfterDone};
 ghost use Rattle.run_text.specs.Reader.{Turn, Gives, turn};
 ghost use Rattle.run_text.specs.Grammar.{Means};
+ghost use Rattle.run_text.specs.Runs.{ReadsOn};
 
 use crate::fault::RunFault;
 use crate::run_line::read_run;
@@ -70,11 +71,22 @@ impl<'a> RunLines<'a> {
         // What a call gives is a function of the reader, unless memory runs out.
         ensures exact { Gives result values.old.items values.new.items self.old self.new (turn self.old) }
         // What is given is what the lines mean.
-        ensures found { OnFalse self.old.is_done ((meant : Result Turn RunFault) × Means self.old meant × Gives result values.old.items values.new.items self.old self.new meant) }
+        ensures found {
+            OnFalse self.old.is_done ((meant : Result Turn RunFault) × Means self.old meant
+            × Gives result values.old.items values.new.items self.old self.new meant)
+        }
         // What the lines mean is given, unless memory runs out.
-        ensures only { OnFalse self.old.is_done ((meant : Result Turn RunFault) → Means self.old meant → Gives result values.old.items values.new.items self.old self.new meant) }
+        ensures only {
+            OnFalse self.old.is_done ((meant : Result Turn RunFault) → Means self.old meant
+            → Gives result values.old.items values.new.items self.old self.new meant)
+        }
+        // What a call tells of reading all lines, for a loop that reads on.
+        ensures reads_on { ReadsOn result values.old.items values.new.items self.old self.new }
         // After `done` each call answers `false`, and changes nothing.
-        ensures ended { OnTrue self.old.is_done ((result ≡ Ok false) × (values.new.items ≡ values.old.items) × (self.new ≡ self.old)) }
+        ensures ended {
+            OnTrue self.old.is_done ((result ≡ Ok false)
+            × (values.new.items ≡ values.old.items) × (self.new ≡ self.old))
+        }
     {
         self.step(values)
     }
