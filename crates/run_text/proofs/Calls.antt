@@ -1,5 +1,5 @@
 -- What a call tells of reading all lines.
-use Rattle.std.proofs.Common.{◌≡◌, ◌⊎◌, List, ℕ, Bool, true, false, refl, ap, ◌∙◌, sym, subst, Result, Ok, Err, inl, inr}
+use Rattle.std.proofs.Common.{◌≡◌, ◌⊎◌, List, ℕ, Bool, true, false, refl, sym, subst, Result, Ok, Err, inl, inr}
 use Rattle.run_text.specs.declared.fault.RunFault.{RunFault}
 use Rattle.run_text.specs.declared.fault.RunFault.TheVariants.{BadRunLine, WrongCount, ValueRange, NoDone, AfterDone, Memory}
 use Rattle.run_text.specs.RunLine.{Refuses}

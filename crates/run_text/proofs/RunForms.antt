@@ -1,5 +1,5 @@
 -- The run line that is read is the run line that is spelled.
-use Rattle.std.proofs.Common.{◌≡◌, ℕ, ◌^◌, ◌<◌, ◌≤◌, List, [], ◌∷◌, ◌++◌, true, false, refl, ap, arith, ◌∙◌, sym, Some, drop, take, inl, inr, ⊎_elim, nat_eq}
+use Rattle.std.proofs.Common.{◌≡◌, ℕ, ◌^◌, ◌≤◌, List, [], ◌∷◌, ◌++◌, true, false, refl, ap, arith, ◌∙◌, sym, Some, drop, take, inl, inr, ⊎_elim, nat_eq}
 use Rattle.std.specs.Prelude.{codes}
 use Rattle.std.specs.List.{flat_map, starts_with}
 use Rattle.std.proofs.lemmas.Bool.{and_parts, and_from, and_cases, and_left, and_right, lt-ltb, ltb-true, le-ltb, ltb-false}

@@ -1,11 +1,10 @@
 -- What reading all lines gives is what the text means.
-use Rattle.std.proofs.Common.{◌≡◌, ◌≢◌, ◌↔◌, ℕ, zero, suc, ◌+◌, ◌<◌, List, [], ◌∷◌, ◌++◌, Bool, true, false, refl, ap, arith, ◌∙◌, sym, subst, cond, map, Result, Ok, Err, length, append_assoc}
-use Rattle.std.specs.Prelude.{codes}
+use Rattle.std.proofs.Common.{◌≡◌, ◌↔◌, ℕ, zero, suc, ◌+◌, ◌<◌, List, [], ◌∷◌, ◌++◌, Bool, true, false, refl, ap, arith, ◌∙◌, sym, subst, cond, map, Result, Ok, Err, length, append_assoc}
 use Rattle.test_lang.specs.Text.Line.{closed}
 use Rattle.run_text.specs.declared.fault.RunFault.{RunFault}
 use Rattle.run_text.specs.Reader.{Reader, Turn, behind, turn}
 use Rattle.run_text.specs.Grammar.{Means}
-use Rattle.run_text.specs.Runs.{IsRunOf, AreRunsOf, line_of, runs_text, with_run, with_runs, go_on, reading_by, reading, behind_lines, IsRefused, RunsMean}
+use Rattle.run_text.specs.Runs.{AreRunsOf, line_of, runs_text, with_run, with_runs, go_on, reading_by, reading, behind_lines, RunsMean}
 use Rattle.run_text.proofs.Meaning.{turn_means, means_turn}
 use Rattle.run_text.proofs.Turns.{IsRunNext, turn-run, turn-done, run-shorter, run-turn, done-turn}
 

@@ -1,5 +1,5 @@
 -- Calls by the runs that they read.
-use Rattle.std.proofs.Common.{◌≡◌, ℕ, suc, ◌+◌, ◌^◌, ◌<◌, List, [], ◌∷◌, ◌++◌, Bool, true, false, refl, ap, arith, ◌∙◌, sym, subst, map, Result, Ok, Err, inl, inr, ⊎_elim, length, length-append}
+use Rattle.std.proofs.Common.{◌≡◌, ℕ, ◌^◌, ◌<◌, List, [], ◌∷◌, ◌++◌, Bool, true, false, refl, ap, arith, ◌∙◌, sym, subst, map, Ok, inl, inr, ⊎_elim, length, length-append}
 use Rattle.std.specs.Prelude.{codes}
 use Rattle.std.specs.Fmt.{decimal}
 use Rattle.std.specs.List.{All, flat_map}
@@ -7,9 +7,8 @@ use Rattle.std.proofs.lemmas.List.{length-map}
 use Rattle.std.proofs.lemmas.List.Elements.{All-nil, All-cons, All-head, All-tail}
 use Rattle.test_lang.specs.Text.Numeral.{value, IsNumeralOf, part}
 use Rattle.test_lang.proofs.TextLemmas.Numerals.{numeral-is_decimal, decimal-numeral}
-use Rattle.run_text.specs.declared.fault.RunFault.{RunFault}
 use Rattle.run_text.specs.Reader.{Reader, Turn, behind, turn}
-use Rattle.run_text.specs.Grammar.{AreNumerals, values_of, run_line, AllFit, ReadsRun, ReadsDone, Means}
+use Rattle.run_text.specs.Grammar.{AreNumerals, values_of, AllFit, ReadsRun, ReadsDone, Means}
 use Rattle.run_text.specs.Runs.{IsRunOf, line_of}
 use Rattle.run_text.proofs.Meaning.{turn_means, means_turn}
 use Rattle.run_text.proofs.Ended.{turn_ended}

@@ -6,3 +6,5 @@ pub mod laws;
 mod parts;
 mod run_line;
 pub mod run_lines;
+#[cfg(test)]
+mod tests;

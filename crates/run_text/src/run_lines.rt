@@ -71,22 +71,16 @@ impl<'a> RunLines<'a> {
         // What a call gives is a function of the reader, unless memory runs out.
         ensures exact { Gives result values.old.items values.new.items self.old self.new (turn self.old) }
         // What is given is what the lines mean.
-        ensures found {
-            OnFalse self.old.is_done ((meant : Result Turn RunFault) × Means self.old meant
-            × Gives result values.old.items values.new.items self.old self.new meant)
-        }
+        ensures found { OnFalse self.old.is_done ((meant : Result Turn RunFault) × Means self.old meant
+            × Gives result values.old.items values.new.items self.old self.new meant) }
         // What the lines mean is given, unless memory runs out.
-        ensures only {
-            OnFalse self.old.is_done ((meant : Result Turn RunFault) → Means self.old meant
-            → Gives result values.old.items values.new.items self.old self.new meant)
-        }
+        ensures only { OnFalse self.old.is_done ((meant : Result Turn RunFault) → Means self.old meant
+            → Gives result values.old.items values.new.items self.old self.new meant) }
         // What a call tells of reading all lines, for a loop that reads on.
         ensures reads_on { ReadsOn result values.old.items values.new.items self.old self.new }
         // After `done` each call answers `false`, and changes nothing.
-        ensures ended {
-            OnTrue self.old.is_done ((result ≡ Ok false)
-            × (values.new.items ≡ values.old.items) × (self.new ≡ self.old))
-        }
+        ensures ended { OnTrue self.old.is_done ((result ≡ Ok false)
+            × (values.new.items ≡ values.old.items) × (self.new ≡ self.old)) }
     {
         self.step(values)
     }
