@@ -1,0 +1,126 @@
+//! How often each outcome occurred.
+ghost use Rattle.std.specs.Prelude.{◌≡◌, ℕ, ◌+◌, ◌-◌, ◌^◌, ◌<◌, List, [], ◌∷◌, ◌++◌, OnOk, IfErr, Some};
+ghost use Rattle.std.specs.BTreeMap.{Updates, IsOrdered};
+ghost use Rattle.tally.specs.declared.outcome.Outcome.{Outcome};
+ghost use Rattle.tally.specs.Outcomes.{outcome_cmp};
+ghost use Rattle.tally.specs.Tallies.{IsCounts, IsTally, count_of, total_of, with_one_more};
+
+use crate::outcome::Outcome;
+use std::alloc::Global;
+use std::collections::{BTreeMap, btree_map};
+use std::marker::Model;
+
+/// A map from outcomes to counts of at least 1: the tally of the outcomes that were added to it.
+/// It is the list of its pairs, each of an outcome and its count, in the order of outcomes.
+#[derive(Drop)]
+pub struct Tally {
+    counts: BTreeMap<Outcome, u64>,
+    total: u64,
+}
+
+impl Model for Tally {
+    ghost use Rattle.std.specs.Prelude.{List, ℕ, ◌≡◌};
+    ghost use Rattle.tally.specs.declared.outcome.Outcome.{Outcome};
+
+    ghost Value = { List (Outcome × ℕ) };
+
+    ghost use Rattle.tally.specs.Tallies.{IsCounts, total_of};
+
+    ghost view = { λ t. t.counts.entries };
+
+    ghost invariant = { λ t. IsCounts t.counts.entries × (t.total ≡ total_of t.counts.entries) };
+}
+
+impl Tally {
+    /// The tally of no outcomes. It takes no memory.
+    pub fn new(alloc: Global) -> Tally
+        ensures empty { result ≡ [] }
+        ensures tally { IsTally [] result }
+    {
+        Tally {
+            counts: BTreeMap::new(alloc),
+            total: 0,
+        }
+    }
+
+    /// Counts one more place of the outcome, in time of the logarithm of the number of distinct ones.
+    /// `Err` means want of memory; it hands the outcome back, and the tally is as before.
+    pub fn add(&mut self, outcome: Outcome) -> Result<(), Outcome>
+        requires { total_of self.old < 2 ^ 64 - 1 }
+        ensures added { OnOk result (self.new ≡ with_one_more self.old outcome) }
+        ensures total { OnOk result (total_of self.new ≡ total_of self.old + 1) }
+        // The tally of a list becomes the tally of the list with this outcome at its end.
+        ensures tally { OnOk result ((outcomes : List Outcome) → IsTally outcomes self.old → IsTally (outcomes ++ outcome ∷ []) self.new) }
+        ensures refused { IfErr result (λ back. (back ≡ outcome) × (self.new ≡ self.old)) }
+        ensures sound { IsCounts self.new }
+    {
+        add_one(&mut self.counts, outcome)?;
+        self.total += 1;
+        Ok(())
+    }
+
+    /// The pairs of an outcome and its count, in the order of outcomes.
+    pub fn iter(&self) -> TallyIter<'_>
+        ensures pairs { result ≡ self.now }
+        ensures sound { IsCounts self.now }
+    {
+        TallyIter {
+            pairs: self.counts.iter(),
+        }
+    }
+
+    /// The sum of the counts: how many outcomes were added.
+    pub fn total(&self) -> u64
+        ensures sum { result ≡ total_of self.now }
+        ensures sound { IsCounts self.now }
+    {
+        self.total
+    }
+}
+
+fn add_one(counts: &mut BTreeMap<Outcome, u64>, outcome: Outcome) -> Result<(), Outcome>
+    requires { total_of counts.old.entries < 2 ^ 64 - 1 }
+    ensures added { OnOk result (counts.new.entries ≡ with_one_more counts.old.entries outcome) }
+    ensures updated { OnOk result (Updates outcome_cmp counts.old counts.new outcome (Some (count_of counts.old.entries outcome + 1))) }
+    ensures ordered { OnOk result (IsOrdered outcome_cmp counts.new) }
+    ensures refused { IfErr result (λ back. (back ≡ outcome) × (counts.new.entries ≡ counts.old.entries)) }
+{
+    match counts.entry(outcome) {
+        Ok(entry) => {
+            *entry.or_insert(0) += 1;
+            Ok(())
+        }
+        Err(refused) => Err(refused.value),
+    }
+}
+
+/// The pairs of a tally that are left to give, each of an outcome and its count.
+#[derive(Drop)]
+pub struct TallyIter<'a> {
+    pairs: btree_map::Iter<'a, Outcome, u64>,
+}
+
+impl<'a> Model for TallyIter<'a> {
+    ghost use Rattle.std.specs.Prelude.{List, ℕ};
+    ghost use Rattle.tally.specs.declared.outcome.Outcome.{Outcome};
+
+    ghost Value = { List (Outcome × ℕ) };
+
+    ghost view = { λ t. t.pairs };
+}
+
+impl<'a> Iterator for TallyIter<'a> {
+    type Item = (&'a Outcome, u64);
+
+    ghost use Rattle.std.specs.Iterator.{YieldsFirstBy, item_count};
+
+    ghost next_gives = { YieldsFirstBy (λ pair. (pair.0.now, pair.1)) (λ pairs. pairs) };
+
+    ghost remaining = { item_count (λ pairs. pairs) };
+
+    /// The next pair; none exactly where all were given.
+    fn next(&mut self) -> Option<(&'a Outcome, u64)> {
+        let (outcome, count) = self.pairs.next()?;
+        Some((outcome, *count))
+    }
+}
