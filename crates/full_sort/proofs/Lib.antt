@@ -9,3 +9,12 @@ mod Free
 mod State
 mod Placing
 mod Cleaning
+pub mod LevelSteps
+pub mod LevelLists
+pub mod Pigeons
+pub mod Measured
+pub mod Descents
+pub mod Reaching
+pub mod EdgeWalks
+pub mod Closures
+pub mod LeastCycles

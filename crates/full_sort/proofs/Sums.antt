@@ -27,7 +27,7 @@ once-drop (suc n) [] h = h
 once-drop (suc n) (x ∷ xs) h = once-drop n xs (once-tail x xs h)
 
 -- a list that passes the test of a number contains it
-has-any : (xs : List ℕ) (q : ℕ) → list_any (eqb q) xs ≡ true → Contains xs q
+pub has-any : (xs : List ℕ) (q : ℕ) → list_any (eqb q) xs ≡ true → Contains xs q
 has-any [] q h = absurd (false≢true h)
 has-any (x ∷ xs) q h = ⊎_elim (λ e. Contains-head x xs q (sym (eqb-true q x e))) (λ r. Contains-tail x xs q (has-any xs q r)) (or_cases (eqb q x) (list_any (eqb q) xs) h)
 

@@ -1,3 +1,5 @@
 pub mod Bits
 pub mod Waiting
 pub mod Scratch
+pub mod Levels
+pub mod Reached

@@ -2,12 +2,19 @@
 #![tactic(auto)]
 
 mod bits;
+mod levels;
 mod node_set;
+mod reached;
+mod shortest;
 mod sorting;
 mod waiting;
 mod window;
 
-pub use sorting::{Scratch, least_order_into, window_order_into};
+pub use sorting::{
+    Scratch, least_on_cycle, least_order_into, shortest_cycle_into, window_order_into,
+};
 
+#[cfg(test)]
+mod cycle_tests;
 #[cfg(test)]
 mod tests;

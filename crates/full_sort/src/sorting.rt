@@ -1,12 +1,15 @@
 //! Least orders, in arrays that are made once.
-ghost use Rattle.std.specs.Prelude.{◌≡◌, ◌≢◌, ◌+◌, ◌*◌, ◌<◌, ◌≤◌, length, All, AllPairs, IfOk};
+ghost use Rattle.std.specs.Prelude.{ℕ, List, ◌∷◌, ◌≡◌, ◌≢◌, ◌+◌, ◌*◌, ◌<◌, ◌≤◌, length, All, AllPairs, IfOk, IfSome, IfNone};
 ghost use Rattle.std.specs.Bool.{OnTrue, OnFalse};
+ghost use Rattle.orders.specs.Cycles.{IsFirstShortestCycle, IsLeastOnCycle, IsOnCycle};
 ghost use Rattle.orders.specs.Orders.{IsLeastOrder, HasNoOrder, nodes_below};
 ghost use Rattle.digraph.specs.Digraph.{HasEdge, edges_out, edges_in};
 
 use crate::node_set::NodeSet;
+use crate::reached::least_reaching_itself;
+use crate::shortest::shortest_cycle;
 use crate::window::order_into;
-use digraph::{Graph, Steps};
+use digraph::{Graph, Nodes, Pairs, Steps};
 use std::alloc::{AllocError, Global};
 use std::marker::Model;
 use std::sync::ledger::Ledger;
@@ -124,4 +127,47 @@ pub fn window_order_into<L: Ledger>(
         order,
         steps,
     )
+}
+
+/// The least node that lies on a cycle, if there is a cycle. It is the first node, in rising order, from which a search along the edges comes
+/// back to it.
+pub fn least_on_cycle<L: Ledger>(
+    graph: &Graph,
+    scratch: &mut Scratch,
+    steps: &mut Steps<L>,
+) -> Option<u32>
+    requires { scratch.old ≡ graph.now.nodes }
+    ensures least { IfSome result (IsLeastOnCycle (HasEdge graph.now.edges)) }
+    ensures none { IfNone result ((node : ℕ) → ¬ IsOnCycle (HasEdge graph.now.edges) node) }
+    ensures room { scratch.new ≡ scratch.old }
+{
+    let _nodes = graph.nodes();
+    least_reaching_itself(graph, &mut scratch.marks, &mut scratch.placed, steps)
+}
+
+/// Puts the first, in list order, of the shortest cycles that begin at `start` into `cycle`. The node lies on a cycle.
+/// A breadth-first search against the edges gives each node its distance to `start`; from there the least node of the level below is taken each
+/// time. A node that isn't reached yet is looked at once a level, and a reached one only where it may come next.
+pub fn shortest_cycle_into<P: Pairs>(
+    pairs: &P,
+    start: u32,
+    scratch: &mut Scratch,
+    cycle: &mut Nodes,
+)
+    requires on_cycle { IsOnCycle (P.edges pairs.now) start }
+    requires room { scratch.old ≡ P.node_count pairs.now }
+    requires cycle_room { P.node_count pairs.now ≤ cycle.old.room }
+    ensures first { (more : List ℕ) × (cycle.new.list ≡ start ∷ more)
+        × IsFirstShortestCycle (P.edges pairs.now) start more }
+    ensures room { scratch.new ≡ scratch.old }
+    ensures cycle_room { cycle.new.room ≡ cycle.old.room }
+{
+    let _nodes = pairs.nodes();
+    shortest_cycle(
+        pairs,
+        start,
+        &mut scratch.waiting,
+        &mut scratch.placed,
+        cycle,
+    );
 }
