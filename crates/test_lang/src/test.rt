@@ -1,5 +1,5 @@
 //! A test: threads of operations over a number of words, with tables that answer for each node in constant time.
-ghost use Rattle.std.specs.Prelude.{◌≡◌, ◌<◌, ◌≤◌, length, OnOk, OnErr};
+ghost use Rattle.std.specs.Prelude.{◌≡◌, ◌<◌, ◌≤◌, length, IfOk, OnOk, OnErr};
 ghost use Rattle.test_lang.specs.Program.{empty_program, with_thread, with_op, op_count, HasWord, IsWithinLimits};
 ghost use Rattle.test_lang.specs.Values.{load_count, store_count};
 
@@ -61,6 +61,19 @@ impl Test {
             store_nodes: Vec::new(alloc),
             first_nodes: Vec::new(alloc),
         }
+    }
+
+    /// An equal test, with tables of its own. The error is want of memory.
+    pub fn copy(&self, alloc: Global) -> Result<Test, AllocError>
+        ensures { IfOk result (λ test. test ≡ self.now) }
+    {
+        Ok(Test {
+            words: self.words,
+            rows: Vec::from_slice(alloc, &self.rows)?,
+            load_nodes: Vec::from_slice(alloc, &self.load_nodes)?,
+            store_nodes: Vec::from_slice(alloc, &self.store_nodes)?,
+            first_nodes: Vec::from_slice(alloc, &self.first_nodes)?,
+        })
     }
 
     /// Adds an empty thread at the end. The error is want of memory.

@@ -168,15 +168,20 @@ fn check_stores(rt: &impl Abort, test: &Test, stores: &[u32]) {
     }
 }
 
+fn check_case(rt: &impl Abort, test: &Test, case: &Case) {
+    assert_eq!(rt; test.words(), case.words);
+    assert_eq!(rt; test.ops(), case.ops);
+    check_threads(rt, test, case.threads, case.first_nodes);
+    check_loads(rt, test, case.loads);
+    check_stores(rt, test, case.stores);
+}
+
 #[test]
 fn lookups(rt: HostRuntime) -> Result<(), Fail> {
     for case in &CASES {
         let test = build(&rt, rt.alloc(), case.words, case.threads)?;
-        assert_eq!(rt; test.words(), case.words);
-        assert_eq!(rt; test.ops(), case.ops);
-        check_threads(&rt, &test, case.threads, case.first_nodes);
-        check_loads(&rt, &test, case.loads);
-        check_stores(&rt, &test, case.stores);
+        check_case(&rt, &test, case);
+        check_case(&rt, &test.copy(rt.alloc())?, case);
     }
     Ok(())
 }
