@@ -1,0 +1,6 @@
+pub mod StoreSteps
+pub mod Blocks
+pub mod LoadCandidates
+pub mod OwnBlocks
+pub mod Lookups
+pub mod RunLemmas

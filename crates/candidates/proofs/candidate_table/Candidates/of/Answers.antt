@@ -1,0 +1,18 @@
+use Rattle.std.proofs.Common.{◌∙◌, map, subst, sym}
+use Rattle.test_lang.specs.Program.{nodes}
+use Rattle.test_lang.proofs.Places.{load_node, passing_all}
+use Rattle.candidates.specs.Tables.{Tabulates}
+use Rattle.candidates.proofs.candidate_table.Candidates.of.Goals as goal
+
+pub invariant_of-result : goal.invariant_of-result
+invariant_of-result c =
+    let p = c.args.test.now in
+    let stores = c.in_ok-stores.stores in
+    let loads = c.in_ok-loads.loads.items in
+    subst (λ q. Tabulates q loads stores.rows.items (map (λ list. list.items) stores.lists.items)) (sym c.in_ok-clone.ensures.cases) (record {
+      operations = c.list_loads.ensures.few;
+      one_row_each = c.in_ok-stores.ensures.count;
+      stores_listed = c.in_ok-stores.ensures.listed;
+      one_load_each = c.in_ok-loads.ensures.told.one_row_each ∙ passing_all load_node (nodes p);
+      loads_tell = c.in_ok-loads.ensures.told.rows_tell;
+    })

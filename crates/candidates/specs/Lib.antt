@@ -1,0 +1,4 @@
+pub mod ByRank
+pub mod Stores
+pub mod Reading
+pub mod Tables

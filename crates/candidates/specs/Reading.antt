@@ -1,0 +1,21 @@
+-- What the row of a load and the row of a value tell of the value among the load's candidates.
+use Rattle.std.specs.Prelude.{ℕ, ◌+◌, ◌-◌, Bool, ◌&&◌, ◌||◌, ◌==◌, nat_lt, nat_le, Option, Some, None, if◌then◌else◌}
+use Rattle.candidates.specs.declared.store_lists.StoreRow.{StoreRow}
+use Rattle.candidates.specs.declared.load_rows.LoadRow.{LoadRow}
+
+-- the value is a candidate's: the base, or that of a store to the word outside of the block of the own thread
+abbrev pub has_value : LoadRow → ℕ → StoreRow → Bool
+has_value load value store = (value == load.base) || ((store.word == load.word) && (nat_lt store.place load.own_from || nat_le load.own_to store.place))
+
+-- the place of a candidate's value
+abbrev pub place_of : LoadRow → ℕ → StoreRow → ℕ
+place_of load value store =
+    if value == load.base then 0 else (if nat_lt store.place load.own_from then store.place + 1 else store.place - (load.own_to - load.own_from) + 1)
+
+-- the place of a value, if it is a candidate's
+abbrev pub found_place : LoadRow → ℕ → StoreRow → Option ℕ
+found_place load value store = if has_value load value store then Some (place_of load value store) else None
+
+-- where the candidate at a place behind the first stands in the list of the word
+abbrev pub list_place : LoadRow → ℕ → ℕ
+list_place load place = if nat_le place load.own_from then place - 1 else place - 1 - load.own_from + load.own_to

@@ -1,0 +1,121 @@
+//! Candidates in tables, of a size in proportion to the test's, that answer in constant time.
+ghost use Rattle.std.specs.Prelude.{◌≡◌, ◌<◌, ◌≤◌, ◌↔◌, ◌==◌, ℕ, length, position, Contains, IfOk, IfSome, IsNone, IsTrue, Some, slice_get};
+ghost use Rattle.std.specs.Option.{option_map};
+ghost use Rattle.candidates.specs.ByRank.{GivesCandidates, candidates_at, load_at};
+ghost use Rattle.test_lang.specs.Runs.{first_outside};
+ghost use Rattle.test_lang.specs.Values.{load_count};
+
+use crate::load_rows::{LoadRow, list_loads};
+use crate::store_lists::{StoreLists, list_stores};
+use std::alloc::{AllocError, Global};
+use std::marker::Model;
+use test_lang::test::Test;
+
+/// The candidates of each load of a test. Contracts see the test.
+#[derive(Debug, Drop)]
+pub struct Candidates {
+    test: Test,
+    loads: Vec<LoadRow>,
+    stores: StoreLists,
+}
+
+impl Model for Candidates {
+    ghost use Rattle.std.specs.Prelude.{map};
+    ghost use Rattle.test_lang.specs.Program.{Program};
+    ghost use Rattle.candidates.specs.Tables.{Tabulates};
+
+    ghost Value = { Program };
+
+    ghost view = { λ c. c.test };
+
+    ghost invariant = { λ c. Tabulates c.test c.loads.items c.stores.rows.items (map (λ list. list.items) c.stores.lists.items) };
+}
+
+impl Candidates {
+    /// The candidates of the loads of the test. An error is want of memory.
+    pub fn of(alloc: Global, test: &Test) -> Result<Candidates, AllocError>
+        ensures { IfOk result (λ candidates. candidates ≡ test.now) }
+    {
+        let stores = list_stores(alloc, test)?;
+        let loads = list_loads(alloc, test, &stores)?;
+        Ok(Candidates {
+            test: test.clone()?,
+            loads,
+            stores,
+        })
+    }
+
+    /// The test.
+    pub fn test(&self) -> &Test
+        ensures { result.now ≡ self.now }
+    {
+        &self.test
+    }
+
+    /// The number of candidates of the load of a rank.
+    pub fn count(&self, rank: u32) -> u32
+        requires { rank < load_count self.now }
+        ensures count { result ≡ length (candidates_at self.now rank) }
+        ensures some { 1 ≤ result }
+        ensures few { result ≤ 2048 }
+    {
+        self.loads[rank as usize].count
+    }
+
+    /// The value of the candidate at a place, counted from 0.
+    pub fn at(&self, rank: u32, place: u32) -> u32
+        requires rank { rank < load_count self.now }
+        requires place { place < length (candidates_at self.now rank) }
+        ensures { slice_get (candidates_at self.now rank) place ≡ Some result }
+    {
+        let load = &self.loads[rank as usize];
+        if place == 0 {
+            return load.base;
+        }
+        self.stores.lists[load.word as usize][load.list_place(place) as usize]
+    }
+
+    /// The place of a value among the candidates.
+    pub fn index(&self, rank: u32, value: u32) -> Option<u32>
+        requires { rank < load_count self.now }
+        ensures found { (place : ℕ) → (result ≡ Some place) ↔ (slice_get (candidates_at self.now rank) place ≡ Some value) }
+        ensures none { IsNone result ↔ (Contains (candidates_at self.now rank) value → ⊥) }
+        // The same as a search.
+        ensures position { result ≡ position (λ candidate. candidate == value) (candidates_at self.now rank) }
+    {
+        let store = self.stores.row(value)?;
+        self.loads[rank as usize].find(value, store)
+    }
+
+    /// Whether each load of the run gives a candidate's value. Which candidate it gives is up to chance, so no step branches on it.
+    fn is_inside(&self, run: &[u32]) -> bool
+        requires { length run.now ≡ load_count self.now }
+        ensures { IsTrue result ↔ GivesCandidates self.now run.now (load_count self.now) }
+    {
+        let mut inside = true;
+        for (rank, value) in run.iter().enumerate() {
+            let Some(store) = self.stores.row(*value) else {
+                return false;
+            };
+            inside &= self.loads[rank].has(*value, store);
+        }
+        inside
+    }
+
+    /// The rank of the first load, in node order, whose value is no candidate's.
+    pub fn first_outside(&self, run: &[u32]) -> Option<u32>
+        requires { length run.now ≡ load_count self.now }
+        ensures load { option_map (load_at self.now) result ≡ first_outside self.now run.now }
+        ensures rank { IfSome result (λ rank. rank < load_count self.now) }
+    {
+        if self.is_inside(run) {
+            return None;
+        }
+        for rank in 0..self.test.loads() {
+            if self.index(rank, run[rank as usize]).is_none() {
+                return Some(rank);
+            }
+        }
+        None
+    }
+}

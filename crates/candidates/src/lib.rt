@@ -1,0 +1,11 @@
+//! The candidates of each load of a test, the values that it may give: the value of the last earlier store to its word in its own thread, or the
+//! initial value 0 where there is none, and then the values of the stores to its word in other threads, in node order.
+#![tactic(auto)]
+
+mod candidate_table;
+mod load_rows;
+mod store_lists;
+#[cfg(test)]
+mod tests;
+
+pub use candidate_table::Candidates;

@@ -1,0 +1,191 @@
+//! What the candidates of each load are, told by a few numbers.
+ghost use Rattle.std.specs.Prelude.{◌≡◌, ◌+◌, ◌-◌, ◌^◌, ◌<◌, ◌≤◌, IfOk, OnOk, IsTrue, length, map};
+ghost use Rattle.candidates.specs.Reading.{found_place, has_value, list_place, place_of};
+ghost use Rattle.candidates.specs.Tables.{ListsStores, TellsBlocks, TellsLoads};
+ghost use Rattle.test_lang.specs.Program.{first_node, op_count, thread_length};
+
+use crate::store_lists::{StoreLists, StoreRow};
+use std::alloc::{AllocError, Global};
+use test_lang::op::Op;
+use test_lang::test::Test;
+
+/// The candidates of a load. Those behind the first are the stores to its word but for the block of its own thread's stores.
+#[derive(Clone, Copy, Debug, Drop)]
+pub(crate) struct LoadRow {
+    pub word: u32,
+    /// The first candidate.
+    pub base: u32,
+    /// Where the block begins in the word's list of stores.
+    pub own_from: u32,
+    /// Where it ends.
+    pub own_to: u32,
+    /// The number of candidates.
+    pub count: u32,
+}
+
+impl LoadRow {
+    /// Whether a value, the row of which is that, is a candidate's.
+    pub fn has(&self, value: u32, store: StoreRow) -> bool
+        ensures { result ≡ has_value self.now value store }
+    {
+        let is_other = store.place < self.own_from || self.own_to <= store.place;
+        value == self.base || store.word == self.word && is_other
+    }
+
+    /// The place of a candidate's value. Which candidate a load gives is up to chance, so no step branches on it.
+    fn place(&self, value: u32, store: StoreRow) -> u32
+        requires block { self.now.own_from ≤ self.now.own_to }
+        requires room { store.place + 1 < 2 ^ 32 }
+        requires has { IsTrue (has_value self.now value store) }
+        ensures { result ≡ place_of self.now value store }
+    {
+        let own = if store.place < self.own_from {
+            0
+        } else {
+            self.own_to - self.own_from
+        };
+        if value == self.base {
+            0
+        } else {
+            store.place - own + 1
+        }
+    }
+
+    /// The place of a value, if it is a candidate's.
+    pub fn find(&self, value: u32, store: StoreRow) -> Option<u32>
+        requires block { self.now.own_from ≤ self.now.own_to }
+        requires room { store.place + 1 < 2 ^ 32 }
+        ensures { result ≡ found_place self.now value store }
+    {
+        if self.has(value, store) {
+            Some(self.place(value, store))
+        } else {
+            None
+        }
+    }
+
+    /// Where the candidate at a place behind the first stands in the list of the word.
+    pub fn list_place(&self, place: u32) -> u32
+        requires some { 0 < place }
+        requires room { place + self.now.own_to < 2 ^ 32 }
+        ensures { result ≡ list_place self.now place }
+    {
+        if place <= self.own_from {
+            place - 1
+        } else {
+            place - 1 - self.own_from + self.own_to
+        }
+    }
+}
+
+/// The block of a thread's stores in the list of a word.
+#[derive(Clone, Copy, Debug, Drop)]
+pub(crate) struct OwnStores {
+    from: u32,
+    to: u32,
+    /// The value of the last of them so far, or 0.
+    last: u32,
+}
+
+impl OwnStores {
+    /// The row of a load of the word, to which there are so many stores in all.
+    fn load_row(self, word: u32, stores: u32) -> LoadRow
+        requires block { self.from ≤ self.to }
+        requires within { self.to ≤ stores }
+        requires room { stores + 1 < 2 ^ 32 }
+        ensures { result ≡ record { word = word; base = self.last; own_from = self.from; own_to = self.to; count = stores - (self.to - self.from) + 1 } }
+    {
+        LoadRow {
+            word,
+            base: self.last,
+            own_from: self.from,
+            own_to: self.to,
+            count: stores - (self.to - self.from) + 1,
+        }
+    }
+}
+
+/// Begins the next thread, whose blocks begin where those of the thread before end.
+fn begin_thread(own: &mut [OwnStores])
+    ensures { own.new ≡ map (λ stores. record { from = stores.to; to = stores.to; last = 0 }) own.old }
+{
+    for stores in own.iter_mut() {
+        *stores = OwnStores {
+            from: stores.to,
+            to: stores.to,
+            last: 0,
+        };
+    }
+}
+
+/// Counts the stores of the thread.
+fn count_stores(test: &Test, thread: u32, own: &mut [OwnStores])
+    requires thread { thread < length test.now.threads }
+    requires few { op_count test.now ≤ 2048 }
+    requires blocks { TellsBlocks test.now thread (first_node test.now thread) (first_node test.now thread) own.old }
+    ensures { TellsBlocks test.now thread (first_node test.now thread + thread_length test.now thread) (first_node test.now thread) own.new }
+{
+    let first = test.first_of(thread);
+    for node in first..first + test.len_of(thread) {
+        if let Op::Store { word } = test.op(node) {
+            own[word as usize].to += 1;
+        }
+    }
+}
+
+/// Lists the loads of the thread.
+fn push_loads(
+    test: &Test,
+    thread: u32,
+    stores: &StoreLists,
+    own: &mut [OwnStores],
+    rows: &mut Vec<LoadRow>,
+) -> Result<(), AllocError>
+    requires thread { thread < length test.now.threads }
+    requires few { op_count test.now ≤ 2048 }
+    requires listed { ListsStores test.now (op_count test.now) stores.now.rows.items (map (λ list. list.items) stores.now.lists.items) }
+    requires blocks { TellsBlocks test.now thread (first_node test.now thread + thread_length test.now thread) (first_node test.now thread) own.old }
+    requires loads { TellsLoads test.now (first_node test.now thread) rows.old.items }
+    ensures blocks { OnOk result (TellsBlocks test.now thread (first_node test.now thread + thread_length test.now thread)
+        (first_node test.now thread + thread_length test.now thread) own.new) }
+    ensures loads { OnOk result (TellsLoads test.now (first_node test.now thread + thread_length test.now thread) rows.new.items) }
+{
+    let first = test.first_of(thread);
+    for node in first..first + test.len_of(thread) {
+        match test.op(node) {
+            Op::Load { word } => {
+                let all = stores.lists[word as usize].len() as u32;
+                rows.push(own[word as usize].load_row(word, all))?;
+            }
+            Op::Store { word } => own[word as usize].last = test.value_of(node),
+            Op::Fence => {}
+        }
+    }
+    Ok(())
+}
+
+/// A row for each load, by rank.
+pub(crate) fn list_loads(
+    alloc: Global,
+    test: &Test,
+    stores: &StoreLists,
+) -> Result<Vec<LoadRow>, AllocError>
+    requires { ListsStores test.now (op_count test.now) stores.now.rows.items (map (λ list. list.items) stores.now.lists.items) }
+    ensures told { IfOk result (λ rows. TellsLoads test.now (op_count test.now) rows.items) }
+    ensures few { op_count test.now ≤ 2048 }
+{
+    let none = OwnStores {
+        from: 0,
+        to: 0,
+        last: 0,
+    };
+    let mut by_word = vec![in alloc; none; test.words() as usize]?;
+    let own = by_word.as_mut_slice();
+    let mut rows = Vec::with_capacity(alloc, test.loads() as usize)?;
+    for thread in 0..test.threads() {
+        begin_thread(own);
+        count_stores(test, thread, own);
+        push_loads(test, thread, stores, own, &mut rows)?;
+    }
+    Ok(rows)
+}
