@@ -33,14 +33,14 @@ contains_listed : (kinds : List Kind) (kind : Kind) → Contains kinds kind → 
 contains_listed [] kind h = absurd (Contains-nil kind h)
 contains_listed (k ∷ ks) kind h = elim (Contains-cons_cases k ks kind h) [ inl same ↦ inl same | inr more ↦ inr (contains_listed ks kind more) ]
 
-only : (x y a b : ℕ) → Contains {X = ℕ × ℕ} ((x, y) ∷ []) (a, b) → (x ≡ a) × (y ≡ b)
+pub only : (x y a b : ℕ) → Contains {X = ℕ × ℕ} ((x, y) ∷ []) (a, b) → (x ≡ a) × (y ≡ b)
 only x y a b h = elim (Contains-cons_cases (x, y) [] (a, b) h) [ inl same ↦ (ap (λ (e : ℕ × ℕ). e.0) same, ap (λ (e : ℕ × ℕ). e.1) same) | inr more ↦ absurd (Contains-nil (a, b) more) ]
 
-edge_from_is : (n : ℕ) (found : Option ℕ) (a b : ℕ) → Contains (edge_from n found) (a, b) → (found ≡ Some a) × (n ≡ b)
+pub edge_from_is : (n : ℕ) (found : Option ℕ) (a b : ℕ) → Contains (edge_from n found) (a, b) → (found ≡ Some a) × (n ≡ b)
 edge_from_is n None a b h = absurd (Contains-nil (a, b) h)
 edge_from_is n (Some k) a b h = let e = only k n a b h in (ap Some e.0, e.1)
 
-edge_to_is : (n : ℕ) (found : Option ℕ) (a b : ℕ) → Contains (edge_to n found) (a, b) → (n ≡ a) × (found ≡ Some b)
+pub edge_to_is : (n : ℕ) (found : Option ℕ) (a b : ℕ) → Contains (edge_to n found) (a, b) → (n ≡ a) × (found ≡ Some b)
 edge_to_is n None a b h = absurd (Contains-nil (a, b) h)
 edge_to_is n (Some k) a b h = let e = only n k a b h in (e.0, ap Some e.1)
 

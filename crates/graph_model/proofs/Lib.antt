@@ -6,3 +6,6 @@ pub mod Chains
 pub mod Sizes
 pub mod Contiguous
 pub mod Passes
+pub mod Found
+pub mod LoadEdges
+pub mod FewRunEdges
