@@ -10,8 +10,8 @@ IsWithinRoom (Took n) room = (1 ≤ n) × (n ≤ room)
 IsWithinRoom End room = Unit {0}
 IsWithinRoom Failed room = Unit {0}
 
--- The bytes taken, which stand at the front of the buffer, were the next ones. `End` comes only where nothing was left.
+-- The bytes taken, which stand at the front of the buffer, were the next ones. `End` comes only where nothing is left.
 abbrev pub TakesNext : Option (List ℕ) → Option (List ℕ) → List ℕ → Take → Type 0
 TakesNext old new buf (Took n) = Consumes old new (take n buf)
-TakesNext old new buf End = IsAtEnd old × Keeps old new
+TakesNext old new buf End = Keeps old new × IsAtEnd new
 TakesNext old new buf Failed = Keeps old new

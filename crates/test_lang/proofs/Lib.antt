@@ -11,3 +11,4 @@ pub mod Rows
 pub mod Tabulated
 pub mod Steps
 pub mod CandidateKinds
+pub mod TextLemmas

@@ -7,3 +7,4 @@ pub mod Signatures
 pub mod Edges
 pub mod EdgeList
 pub mod Litmus
+pub mod Text

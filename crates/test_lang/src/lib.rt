@@ -5,3 +5,4 @@ pub mod edges;
 pub mod litmus;
 pub mod op;
 pub mod test;
+pub mod text;

@@ -45,7 +45,8 @@ impl Model for Test {
 
     ghost view = { λ t. program_of t.words (length t.first_nodes.items) t.rows.items };
 
-    ghost invariant = { λ t. Tabulates (program_of t.words (length t.first_nodes.items) t.rows.items) t.rows.items t.load_nodes.items t.store_nodes.items t.first_nodes.items };
+    ghost invariant = { λ t. Tabulates (program_of t.words (length t.first_nodes.items) t.rows.items)
+        t.rows.items t.load_nodes.items t.store_nodes.items t.first_nodes.items };
 }
 
 impl Test {

@@ -1,0 +1,17 @@
+-- What is taken from a source. The bytes that it has left are `None` where it doesn't tell them.
+use Rattle.std.specs.Prelude.{ℕ, ◌+◌, ◌^◌, ◌<◌, List, length, Option, Some, None, ⊤}
+use Rattle.std.specs.Io.KnownBytes.{Consumes}
+
+-- what is left now is what was left before without a front, which was taken
+abbrev pub IsRestOf : Option (List ℕ) → Option (List ℕ) → Type 0
+IsRestOf before now = (taken : List ℕ) × Consumes before now taken
+
+-- a fact about what was left before and what is left now, where both are told
+abbrev pub WhereTold : Option (List ℕ) → Option (List ℕ) → (List ℕ → List ℕ → Type 0) → Type 0
+WhereTold None now P = ⊤
+WhereTold (Some xs) None P = ⊤
+WhereTold (Some xs) (Some ys) P = P xs ys
+
+-- more bytes were taken than an input may have
+abbrev pub IsPastLimit : List ℕ → List ℕ → Type 0
+IsPastLimit before now = 2 ^ 30 + length now < length before

@@ -1,0 +1,42 @@
+//! The status that a call ends with, and the line that tells it.
+ghost use Rattle.std.specs.Prelude.{◌≡◌};
+ghost use Rattle.mtrace_app.specs.Status.{message};
+
+/// How a call ended. The program ends with its number as exit status.
+#[derive(Clone, Copy, Debug, PartialEq, Eq)]
+pub enum Status {
+    /// The report has no cycle and no value outside of the candidates.
+    Clean = 0,
+    /// The report has a cycle, or a value outside of the candidates.
+    Found = 1,
+    /// The words have no settings.
+    Words = 2,
+    /// The input is out of form.
+    Input = 3,
+    /// A take from the source failed.
+    ReadFault = 4,
+    /// A put to the sink failed.
+    WriteFault = 5,
+    /// Memory was refused.
+    Memory = 6,
+    /// The input passes a limit.
+    TooLarge = 7,
+    /// The words or the input are of a form that isn't built yet.
+    NotBuilt = 8,
+}
+
+/// The line that is put to the errors with a status; empty where there is none.
+pub(crate) fn message(status: Status) -> &'static [u8]
+    ensures { result.now ≡ message status }
+{
+    match status {
+        Status::Clean | Status::Found => b"",
+        Status::Words => b"mtrace: words\n",
+        Status::Input => b"mtrace: input\n",
+        Status::ReadFault => b"mtrace: read fault\n",
+        Status::WriteFault => b"mtrace: write fault\n",
+        Status::Memory => b"mtrace: memory\n",
+        Status::TooLarge => b"mtrace: too large: bytes\n",
+        Status::NotBuilt => b"mtrace: not built\n",
+    }
+}
