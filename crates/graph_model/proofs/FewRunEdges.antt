@@ -126,8 +126,7 @@ both_later p store a b h n k beside word =
     let t = eqb-true s.0 x.0 (sym (threads_are p store a s.0 x.0 (Store s.1) (Store x.1) s.2 x.2) ∙ n.beside) in
     let u = eqb-true s.0 y.0 (sym (threads_are p store b s.0 y.0 (Store s.1) (Store y.1) s.2 y.2) ∙ beside) in
     let w = eqb-true s.1 x.1 (sym (words_are p store a s.0 x.0 (Store s.1) (Store x.1) s.2 x.2) ∙ n.word) in
-    let v = eqb-true s.1 y.1 (sym (words_are p store b s.0 y.0 (Store s.1) (Store y.1) s.2 y.2) ∙ word) in
-    (
+    let v = eqb-true s.1 y.1 (sym (words_are p store b s.0 y.0 (Store s.1) (Store y.1) s.2 y.2) ∙ word) in (
       threads_are p a b x.0 y.0 (Store x.1) (Store y.1) x.2 y.2 ∙ eq-eqb x.0 y.0 (sym t ∙ u),
       words_are p a b x.0 y.0 (Store x.1) (Store y.1) x.2 y.2 ∙ eq-eqb x.1 y.1 (sym w ∙ v),
     )
@@ -140,8 +139,7 @@ both_for p load a b t x h n in_thread is word =
     let s = store_is p a n.is_store in
     let u : s.0 ≡ t = eqb-true s.0 t (sym (ap (passes (λ node. node.0 == t)) s.2) ∙ in_thread) in
     let w = eqb-true l.1 s.1 (sym (words_are p load a l.0 s.0 (Load l.1) (Store s.1) l.2 s.2) ∙ n.word) in
-    let v = eqb-true l.1 x (sym (words_are p load b l.0 t (Load l.1) (Store x) l.2 is) ∙ word) in
-    (
+    let v = eqb-true l.1 x (sym (words_are p load b l.0 t (Load l.1) (Store x) l.2 is) ∙ word) in (
       threads_are p a b s.0 t (Store s.1) (Store x) s.2 is ∙ eq-eqb s.0 t u,
       words_are p a b s.0 t (Store s.1) (Store x) s.2 is ∙ eq-eqb s.1 x (sym w ∙ v),
     )

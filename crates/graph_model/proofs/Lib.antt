@@ -9,3 +9,4 @@ pub mod Passes
 pub mod Found
 pub mod LoadEdges
 pub mod FewRunEdges
+pub mod StoreTables

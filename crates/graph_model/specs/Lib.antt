@@ -3,4 +3,5 @@ pub mod FewKept
 pub mod WordTables
 pub mod NearestNodes
 pub mod LoadEdges
+pub mod StoreTables
 pub mod StaticGraph

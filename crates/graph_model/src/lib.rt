@@ -6,6 +6,7 @@ mod kept_order;
 mod kinds;
 mod nearest;
 mod run_edges;
+mod store_tables;
 
 pub use kept_order::kept;
 pub use run_edges::edge;
