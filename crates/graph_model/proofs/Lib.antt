@@ -10,3 +10,4 @@ pub mod Found
 pub mod LoadEdges
 pub mod FewRunEdges
 pub mod StoreTables
+pub mod Statics

@@ -5,3 +5,4 @@ pub mod NearestNodes
 pub mod LoadEdges
 pub mod StoreTables
 pub mod StaticGraph
+pub mod Tabled

@@ -6,10 +6,12 @@ mod kept_order;
 mod kinds;
 mod nearest;
 mod run_edges;
+mod static_graph;
 mod store_tables;
 
 pub use kept_order::kept;
 pub use run_edges::edge;
+pub use static_graph::Static;
 
 #[cfg(test)]
 mod tests;

@@ -15,7 +15,7 @@ loop-node-preserved c =
       within = omega arith;
       room = length-set c.loop-node.table.items (end - 1) c.next_of_kind.result ∙ i.room;
       each = subst (λ (found : Option ℕ). (n : ℕ) → end - 1 ≤ n → n < op_count p → get_or (set c.loop-node.table.items (end - 1) found) n None ≡ next_store p n) (sym c.next_of_kind.ensures.next)
-      (nexts_more p c.loop-node.table.items end c.loop-node-test.true i.within i.room i.each);
+          (nexts_more p c.loop-node.table.items end c.loop-node-test.true i.within i.room i.each);
       told = tells_first p end c.op-op.result c.meet.new.self c.loop-node-test.true i.within c.op-op.ensures.found (c.meet.ensures.told (first_node p (op_count p - end)) i.told);
       words = c.meet.ensures.room ∙ i.words;
     }
