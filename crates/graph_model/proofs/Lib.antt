@@ -11,3 +11,4 @@ pub mod LoadEdges
 pub mod FewRunEdges
 pub mod StoreTables
 pub mod Statics
+pub mod LoadLists

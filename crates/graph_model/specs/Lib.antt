@@ -6,3 +6,4 @@ pub mod LoadEdges
 pub mod StoreTables
 pub mod StaticGraph
 pub mod Tabled
+pub mod RunGraph

@@ -11,7 +11,7 @@ mod store_tables;
 
 pub use kept_order::kept;
 pub use run_edges::edge;
-pub use static_graph::Static;
+pub use static_graph::{Full, Static};
 
 #[cfg(test)]
 mod tests;

@@ -11,6 +11,11 @@ use std::marker::Model;
 use test_lang::op::MemModel;
 use test_lang::test::Test;
 
+mod full_graph;
+mod load_edges;
+
+pub use full_graph::Full;
+
 /// The part of a run's constraint graph that doesn't depend on the run: a few kept pairs, along which the same nodes are reached as along all.
 ///
 /// A layer that looks at one run after another takes one graph by `graph_with_room`, adds the edges that `dynamic_into` gives for each load, and
@@ -76,5 +81,18 @@ impl Static {
         ensures few { result ≤ 16 }
     {
         self.test.threads()
+    }
+
+    /// A copy of `graph` with room for so many more edges. The error is want of memory.
+    pub fn graph_with_room(&self, alloc: Global, more: u32) -> Result<Graph, AllocError>
+        requires { length self.now.graph.edges + more < 2 ^ 32 }
+        ensures { IfOk result (λ copy. copy ≡ record self.now.graph { room = length self.now.graph.edges + more }) }
+    {
+        let edges = self.graph.edges();
+        let mut copy = Graph::with_room(alloc, self.graph.nodes(), edges + more)?;
+        for edge in 0..edges {
+            copy.add(self.graph.source(edge), self.graph.target(edge));
+        }
+        Ok(copy)
     }
 }
