@@ -1,5 +1,5 @@
 -- A directed graph as the list of its edges, in the order of adding.
-use Rattle.std.specs.Prelude.{◌≡◌, ◌≢◌, ◌==◌, ℕ, suc, ◌^◌, ◌<◌, ◌≤◌, List, Option, Some, None, All, Contains, count_by, length, slice_index_or}
+use Rattle.std.specs.Prelude.{◌≡◌, ◌≢◌, ◌==◌, ℕ, suc, ◌^◌, ◌<◌, ◌≤◌, List, Option, Some, None, All, Contains, count_by, sum_by, length, slice_index_or}
 
 -- The nodes are the numbers below `nodes`, and there is room for `room` edges. An edge is the pair of its source and its target.
 pub record Digraph : Type 0 where
@@ -31,6 +31,13 @@ out_degree edges node = count_by (λ e. e.0 == node) edges
 
 abbrev pub in_degree : List (ℕ × ℕ) → ℕ → ℕ
 in_degree edges node = count_by (λ e. e.1 == node) edges
+
+-- the sums of these over the nodes of a list
+abbrev pub edges_out : List (ℕ × ℕ) → List ℕ → ℕ
+edges_out edges nodes = sum_by (out_degree edges) nodes
+
+abbrev pub edges_in : List (ℕ × ℕ) → List ℕ → ℕ
+edges_in edges nodes = sum_by (in_degree edges) nodes
 
 -- no number from the first one on and below the bound has the key
 abbrev pub NoneHas : (ℕ → ℕ) → ℕ → ℕ → ℕ → Type 0

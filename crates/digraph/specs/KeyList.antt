@@ -1,5 +1,5 @@
 -- A list of keys, in which each is linked to the place before it that has the same key.
-use Rattle.std.specs.Prelude.{◌≡◌, ◌==◌, ℕ, ◌^◌, ◌<◌, ◌≤◌, List, Option, Some, None, All, if◌then◌else◌, length, slice_index}
+use Rattle.std.specs.Prelude.{◌≡◌, ◌==◌, ℕ, ◌^◌, ◌<◌, ◌≤◌, List, Option, Some, None, All, if◌then◌else◌, length, take, slice_index}
 use Rattle.std.specs.List.{zip}
 use Rattle.digraph.specs.Digraph.{Digraph, IsLastBelow}
 use Rattle.digraph.specs.declared.links.TheConstants.{NONE}
@@ -16,6 +16,10 @@ pub record IsKeyList (l : KeyList) : Type 0 where
   pub room : length l.keys ≤ l.room
   pub few_kinds : l.kinds < 2 ^ 32
   pub few_keys : l.room < 2 ^ 32
+
+-- the first keys of the array, where each kind has a last place
+abbrev pub key_list_of : ℕ → List ℕ → List ℕ → KeyList
+key_list_of count keys last = record { kinds = length last; room = length keys; keys = take count keys }
 
 -- The keys of the one list are sources, and those of the other are the targets of the same edges.
 pub record ArePaired (sources targets : KeyList) : Type 0 where

@@ -8,7 +8,8 @@ ghost use Rattle.std.specs.Cmp.Rules.{comparing};
 use std::alloc::{AllocError, Global};
 use std::marker::Model;
 
-/// A list of edges of fixed room, each the pair of its source and its target. Two of them are equal where their lists are.
+/// A list of edges of fixed room, each the pair of its source and its target.
+/// Two of them are equal where their lists are.
 #[derive(Debug, Drop)]
 pub struct Edges {
     items: Vec<(u32, u32)>,

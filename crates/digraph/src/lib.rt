@@ -1,4 +1,4 @@
-//! Directed graphs in arrays, lists of nodes and of edges of fixed room, and sets of edges that a test tells.
+//! Directed graphs in arrays, lists of nodes and of edges, and sets of edges that a test tells.
 //! Nothing but a `with_room` takes memory.
 #![tactic(auto)]
 

@@ -28,9 +28,10 @@ impl Model for Graph {
 }
 
 impl Graph {
-    /// A graph of so many nodes without an edge, with room for so many edges. `Err` means want of memory.
+    /// A graph of so many nodes without an edge, with room for so many edges.
+    /// `Err` means want of memory.
     pub fn with_room(alloc: Global, nodes: u32, edges: u32) -> Result<Graph, AllocError>
-        ensures { IfOk result (λ graph. graph ≡ record { nodes = nodes; room = edges; edges = [] }) }
+        ensures { IfOk result (λ g. g ≡ record { nodes = nodes; room = edges; edges = [] }) }
     {
         Ok(Graph {
             sources: Links::with_room(alloc, nodes, edges)?,

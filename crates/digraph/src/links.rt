@@ -9,7 +9,8 @@ use std::marker::Model;
 /// A link to no place.
 pub const NONE: u32 = u32::MAX;
 
-/// A list of keys below a fixed number, of fixed room. All but `with_room` and `truncate` take constant time.
+/// A list of keys below a fixed number, of fixed room.
+/// All but `with_room` and `truncate` take constant time.
 #[derive(Drop)]
 pub struct Links {
     count: u32,
@@ -19,19 +20,18 @@ pub struct Links {
 }
 
 impl Model for Links {
-    ghost use Rattle.std.specs.Prelude.{length, take};
-    ghost use Rattle.digraph.specs.KeyList.{KeyList, IsLinked};
+    ghost use Rattle.digraph.specs.KeyList.{KeyList, IsLinked, key_list_of};
 
     ghost Value = { KeyList };
 
-    ghost view = { λ l. record { kinds = length l.last.items; room = length l.keys.items; keys = take l.count l.keys.items } };
+    ghost view = { λ l. key_list_of l.count l.keys.items l.last.items };
 
     ghost invariant = { λ l. IsLinked l.count l.keys.items l.last.items l.previous.items };
 }
 
 impl Links {
     pub fn with_room(alloc: Global, kinds: u32, room: u32) -> Result<Links, AllocError>
-        ensures empty { IfOk result (λ links. links ≡ record { kinds = kinds; room = room; keys = [] }) }
+        ensures empty { IfOk result (λ l. l ≡ record { kinds = kinds; room = room; keys = [] }) }
         ensures sound { IfOk result IsKeyList }
     {
         Ok(Links {
@@ -70,7 +70,7 @@ impl Links {
 
     fn pop(&mut self)
         requires { 0 < length self.old.keys }
-        ensures { self.new ≡ record self.old { keys = take (length self.old.keys - 1) self.old.keys } }
+        ensures { let len = length self.old.keys in self.new ≡ record self.old { keys = take (len - 1) self.old.keys } }
     {
         let place = self.count - 1;
         let key = self.keys[place as usize];
@@ -108,7 +108,7 @@ impl Links {
     /// The last place before this one that has the same key.
     pub fn previous(&self, place: u32) -> Option<u32>
         requires { place < length self.now.keys }
-        ensures { IsLastBelow (slice_index self.now.keys) (slice_index self.now.keys place) place result }
+        ensures { let keys = self.now.keys in IsLastBelow (slice_index keys) (slice_index keys place) place result }
     {
         at(self.previous[place as usize])
     }

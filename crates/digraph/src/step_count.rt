@@ -23,7 +23,8 @@ impl<L: Ledger> Model for Steps<L> {
 
 impl<L: Ledger> Steps<L> {
     /// A counter at 0, over a ledger that nothing else counts in.
-    /// A caller that counts nothing passes `Blank::new(1)` to a function over `L: Ledger`, called at `Brand`, and that makes the counter.
+    /// A caller that counts nothing passes `Blank::new(1)` to a function over `L: Ledger`, which it
+    /// calls at `Brand`, and there the counter is made.
     pub fn new(blank: Blank) -> Self
         requires name { blank.name ≡ L.name }
         requires parts { blank.parts ≡ L.parts }

@@ -66,7 +66,8 @@ fn reads(graph: &Graph, node: u32, edge: u32) -> Reads
 
 /// A graph of three nodes with four edges, and room for one more.
 fn small(alloc: Global) -> Result<Graph, AllocError>
-    ensures { IfOk result (λ g. g ≡ record { nodes = 3; room = 5; edges = (0, 1) ∷ (1, 2) ∷ (0, 2) ∷ (0, 1) ∷ [] }) }
+    ensures { IfOk result (λ g. g ≡
+        record { nodes = 3; room = 5; edges = (0, 1) ∷ (1, 2) ∷ (0, 2) ∷ (0, 1) ∷ [] }) }
 {
     let mut graph = Graph::with_room(alloc, 3, 5)?;
     graph.add(0, 1);

@@ -1,6 +1,6 @@
 //! Numerals of any length. A number is held down to 2^32, the first that is too large for 32 bits, so that no numeral
 //! is too long.
-ghost use Rattle.std.specs.Prelude.{◌≡◌, ℕ, ◌*◌, ◌+◌, ◌-◌, ◌^◌, ◌<◌, ◌≤◌, min};
+ghost use Rattle.std.specs.Prelude.{◌≡◌, ℕ, ◌*◌, ◌+◌, ◌-◌, ◌^◌, ◌<◌, ◌≤◌, length, min, IfSome};
 ghost use Rattle.std.specs.Option.{option_map};
 ghost use Rattle.test_lang.specs.Text.Numeral.{digits_at, numeral_at, whole_numeral, held, held_front};
 
@@ -24,6 +24,7 @@ fn digits(first: u64, text: &[u8]) -> (u64, &[u8])
     requires { first ≤ 2 ^ 32 }
     ensures number { result.0 ≡ held (digits_at first text.now).0 }
     ensures rest { result.1.now ≡ (digits_at first text.now).1 }
+    ensures shorter { length result.1.now ≤ length text.now }
 {
     let mut number = first;
     for (at, byte) in text.iter().enumerate() {
@@ -37,7 +38,8 @@ fn digits(first: u64, text: &[u8]) -> (u64, &[u8])
 
 /// The longest numeral at the front: its number, held down to 2^32, and the bytes after it.
 pub fn numeral(text: &[u8]) -> Option<(u64, &[u8])>
-    ensures { option_map (λ found. (found.0, found.1.now)) result ≡ option_map held_front (numeral_at text.now) }
+    ensures exact { option_map (λ found. (found.0, found.1.now)) result ≡ option_map held_front (numeral_at text.now) }
+    ensures shorter { IfSome result (λ found. length found.1.now < length text.now) }
 {
     let (first, rest) = text.split_first()?;
     if *first == b'0' {

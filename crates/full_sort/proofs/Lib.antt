@@ -1,0 +1,11 @@
+mod Sums
+mod Words
+mod Summed
+mod Walk
+mod WalkSteps
+mod Marked
+mod Edges
+mod Free
+mod State
+mod Placing
+mod Cleaning

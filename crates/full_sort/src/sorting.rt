@@ -1,0 +1,127 @@
+//! Least orders, in arrays that are made once.
+ghost use Rattle.std.specs.Prelude.{◌≡◌, ◌≢◌, ◌+◌, ◌*◌, ◌<◌, ◌≤◌, length, All, AllPairs, IfOk};
+ghost use Rattle.std.specs.Bool.{OnTrue, OnFalse};
+ghost use Rattle.orders.specs.Orders.{IsLeastOrder, HasNoOrder, nodes_below};
+ghost use Rattle.digraph.specs.Digraph.{HasEdge, edges_out, edges_in};
+
+use crate::node_set::NodeSet;
+use crate::window::order_into;
+use digraph::{Graph, Steps};
+use std::alloc::{AllocError, Global};
+use std::marker::Model;
+use std::sync::ledger::Ledger;
+
+/// Room for the orders of a graph of so many nodes. Contracts see their number, which no call changes.
+/// Between two calls no node waits for an edge, none is marked and the set is empty: so the time of a
+/// call is that of its window.
+#[derive(Drop)]
+pub struct Scratch {
+    waiting: Vec<u32>,
+    marks: Vec<bool>,
+    ready: NodeSet,
+    placed: Vec<u32>,
+    all: Vec<u32>,
+}
+
+impl Model for Scratch {
+    ghost use Rattle.std.specs.Prelude.{ℕ, length};
+    ghost use Rattle.full_sort.specs.Scratch.{IsScratch};
+
+    ghost Value = { ℕ };
+
+    ghost view = { λ s. length s.waiting.items };
+
+    ghost invariant = { λ s. IsScratch s.waiting.items s.marks.items s.ready s.placed.items s.all.items };
+}
+
+impl Scratch {
+    /// Room for graphs of so many nodes. `Err` means want of memory.
+    pub fn new(alloc: Global, nodes: u32) -> Result<Scratch, AllocError>
+        ensures { IfOk result (λ scratch. scratch ≡ nodes) }
+    {
+        let waiting = vec![in alloc; 0u32; nodes as usize]?;
+        let marks = vec![in alloc; false; nodes as usize]?;
+        let ready = NodeSet::new(alloc, nodes)?;
+        let placed = vec![in alloc; 0u32; nodes as usize]?;
+        let mut all = Vec::with_capacity(alloc, nodes as usize)?;
+        for node in 0..nodes {
+            all.push(node)?;
+        }
+        Ok(Scratch {
+            waiting,
+            marks,
+            ready,
+            placed,
+            all,
+        })
+    }
+}
+
+/// Puts the least order of all nodes of the graph into `order`, and says whether there is one.
+/// This is Kahn's algorithm, which takes the least ready node each time. Each edge ticks twice: it is
+/// counted and taken back.
+pub fn least_order_into<L: Ledger>(
+    graph: &Graph,
+    scratch: &mut Scratch,
+    order: &mut [u32],
+    steps: &mut Steps<L>,
+) -> bool
+    requires room { scratch.old ≡ graph.now.nodes }
+    requires order { length order.old ≡ graph.now.nodes }
+    ensures found { OnTrue result
+        (IsLeastOrder (HasEdge graph.now.edges) (nodes_below graph.now.nodes) order.new) }
+    ensures none { OnFalse result
+        (HasNoOrder (HasEdge graph.now.edges) (nodes_below graph.now.nodes)) }
+    ensures unchanged { OnFalse result (order.new ≡ order.old) }
+    ensures room { scratch.new ≡ scratch.old }
+    ensures ticks { steps.new ≡ steps.old + 2 * length graph.now.edges }
+    ensures bound { steps.new ≤ steps.old + 3 * length graph.now.edges }
+{
+    let _edges = graph.edges();
+    order_into(
+        graph,
+        &scratch.all,
+        &mut scratch.waiting,
+        &mut scratch.marks,
+        &mut scratch.ready,
+        &mut scratch.placed,
+        order,
+        steps,
+    )
+}
+
+/// Puts the least order of the window's nodes, under the edges among them, into `order`, and says
+/// whether there is one. The window is a list of distinct nodes. Each edge from one of them ticks twice.
+/// The time is that of the window and of these edges, and a node is taken in the time of one word for
+/// each 4,096 nodes below it: no other node is looked at.
+pub fn window_order_into<L: Ledger>(
+    graph: &Graph,
+    window: &[u32],
+    scratch: &mut Scratch,
+    order: &mut [u32],
+    steps: &mut Steps<L>,
+) -> bool
+    requires window { All (λ n. n < graph.now.nodes) window.now }
+    requires once { AllPairs (λ a b. a ≢ b) window.now }
+    requires room { scratch.old ≡ graph.now.nodes }
+    requires order { length order.old ≡ length window.now }
+    ensures found { OnTrue result (IsLeastOrder (HasEdge graph.now.edges) window.now order.new) }
+    ensures none { OnFalse result (HasNoOrder (HasEdge graph.now.edges) window.now) }
+    ensures unchanged { OnFalse result (order.new ≡ order.old) }
+    ensures room { scratch.new ≡ scratch.old }
+    ensures ticks { steps.new ≡ steps.old + 2 * edges_out graph.now.edges window.now }
+    ensures bound { steps.new ≤ steps.old +
+        3 * (edges_out graph.now.edges window.now + edges_in graph.now.edges window.now) }
+{
+    let _edges = graph.edges();
+    order_into(
+        graph,
+        window,
+        &mut scratch.waiting,
+        &mut scratch.marks,
+        &mut scratch.ready,
+        &mut scratch.placed,
+        order,
+        steps,
+    )
+}
