@@ -1,22 +1,20 @@
 -- The static edges and those of the loads reach each edge of the run.
-use Rattle.std.proofs.Common.{◌≡◌, ◌⊎◌, ℕ, zero, suc, ◌+◌, ◌-◌, ◌*◌, ◌<◌, ◌≤◌, List, [], ◌∷◌, ◌++◌, Bool, true, false, cond, not, ◌&&◌, length, Contains, inl, inr, arith, refl, sym, ap, subst, ◌∙◌}
-use Rattle.std.specs.Prelude.{find, Option, Some, None, IsTrue, slice_get, ◌==◌, nat_lt}
+use Rattle.std.proofs.Common.{◌≡◌, ℕ, ◌<◌, ◌≤◌, List, [], ◌∷◌, Bool, true, false, cond, ◌&&◌, length, Contains, inl, inr, arith, refl, sym, ap, subst, ◌∙◌}
+use Rattle.std.specs.Prelude.{Option, Some, None, slice_get, ◌==◌, nat_lt}
 use Rattle.std.specs.List.{flat_map}
 use Rattle.std.specs.Option.{option_map}
-use Rattle.std.proofs.lemmas.Bool.{cases_eq, cases_lt, eqb-true, eq-eqb}
+use Rattle.std.proofs.lemmas.Bool.{cases_lt, eqb-true, eq-eqb}
 use Rattle.std.proofs.lemmas.Bool.Decides.{nat_tests}
 use Rattle.std.proofs.lemmas.List.Elements.{Contains-append_left, Contains-append_right, Contains-append_cases}
-use Rattle.std.proofs.lemmas.Option.{slice_get_within, same_Some}
 use Rattle.orders.specs.Orders.{nodes_below}
 use Rattle.orders.specs.Paths.{Reach}
 use Rattle.orders.specs.Reductions.{IsAmong, IsReaching, IsWithin}
 use Rattle.orders.proofs.Below.{has-below}
 use Rattle.orders.proofs.FewEdges.{reach_append, reach_by_all}
-use Rattle.orders.proofs.Members.{Contains-nil, Contains-head, Contains-tail, Contains-cons_cases, Contains-flat_map, Contains-flat_map_back, Contains-filter_back}
+use Rattle.orders.proofs.Members.{Contains-head, Contains-tail, Contains-flat_map, Contains-flat_map_back, Contains-filter_back}
 use Rattle.test_lang.specs.declared.op.Op.{Op}
 use Rattle.test_lang.specs.declared.op.Op.TheVariants.{Load, Store, Fence}
 use Rattle.test_lang.specs.declared.op.MemModel.{MemModel}
-use Rattle.test_lang.specs.declared.op.MemModel.TheVariants.{Sc, Tso, Weak}
 use Rattle.test_lang.specs.Program.{Program, nodes, all_nodes, op_count, at_node, passes, passes_after}
 use Rattle.test_lang.specs.Values.{is_load, is_store, same_word, is_load_at, is_store_at, same_thread, one_word, value_of, load_nodes}
 use Rattle.test_lang.specs.Kept.{keeps, is_kept}
@@ -30,10 +28,10 @@ use Rattle.test_lang.proofs.Ranks.{one_store}
 use Rattle.test_lang.proofs.Threads.{thread_at-stands}
 use Rattle.digraph.specs.Digraph.{HasEdge}
 use Rattle.graph_model.specs.FewKept.{edge_to}
-use Rattle.graph_model.specs.LoadEdges.{store_of, next_store, first_store, edges_to_first_stores, edges_by_store, edges_of_load}
-use Rattle.graph_model.specs.StaticGraph.{StaticGraph, IsStaticGraph, Kept, few_run_edges}
-use Rattle.graph_model.proofs.Beside.{Is, IsKeptPair, kept_of_pair, both, both_true}
-use Rattle.graph_model.proofs.Found.{IsFound, find_below-some, find_below-found}
+use Rattle.graph_model.specs.LoadEdges.{store_of, next_store, first_store, edges_by_store, edges_of_load}
+use Rattle.graph_model.specs.StaticGraph.{StaticGraph, IsStaticGraph, few_run_edges}
+use Rattle.graph_model.proofs.Beside.{Is, kept_pair, kept_of_pair, both, both_true}
+use Rattle.graph_model.proofs.Found.{find_below-some, find_below-found}
 use Rattle.graph_model.proofs.LoadEdges.{next_store-some, first_store-some, IsNextStore, IsStoreFor, store_of-value, edges_of_initial, edges_of_value, load_among}
 
 -- nodes by their kinds
@@ -275,3 +273,17 @@ module _ (s : StaticGraph) (run : List ℕ) (sound : IsStaticGraph s) (inside : 
 -- all edges lead between nodes
 pub edges_within : (m : MemModel) (p : Program) (run : List ℕ) → IsWithin (Edge m p run) (all_nodes p)
 edges_within m p run a b h = let below = edge-nodes m p run a b h in (has-below (op_count p) a below.0, has-below (op_count p) b below.1)
+
+-- a node is no load and store at once
+no_load_and_store : (p : Program) (n : ℕ) → is_load_at p n ≡ true → is_store_at p n ≡ true → ⊥
+no_load_and_store p n h k =
+    let l = load_is p n h in
+    let s = store_is p n k in
+    not_both (slice_get (nodes p) n) l.0 s.0 l.1 s.1 l.2 s.2
+
+-- no edge leads from a node to itself
+pub no_loop : (m : MemModel) (p : Program) (run : List ℕ) (a : ℕ) → Edge m p run a a → ⊥
+no_loop m p run a (kept h) = let lt = (kept_pair m p a a h).earlier in omega (arith, lt)
+no_loop m p run a (reads_from store load value apart) = no_load_and_store p a load store
+no_loop m p run a (before_later w load store value later beside lt word) = no_load_and_store p a load later
+no_loop m p run a (before_any load value store word) = no_load_and_store p a load store

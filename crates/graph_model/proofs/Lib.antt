@@ -12,3 +12,4 @@ pub mod FewRunEdges
 pub mod StoreTables
 pub mod Statics
 pub mod LoadLists
+pub mod RunOrders

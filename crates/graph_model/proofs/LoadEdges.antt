@@ -1,30 +1,23 @@
 -- The few edges of a load are edges of the run.
-use Rattle.std.proofs.Common.{◌≡◌, ◌⊎◌, ℕ, zero, suc, ◌+◌, ◌-◌, ◌*◌, ◌<◌, ◌≤◌, List, [], ◌∷◌, ◌++◌, Bool, true, false, cond, not, ◌&&◌, length, Contains, inl, inr, arith, refl, sym, ap, subst, ◌∙◌}
-use Rattle.std.specs.Prelude.{find, Option, Some, None, IsTrue, slice_get, ◌==◌, nat_lt}
-use Rattle.std.specs.List.{flat_map}
-use Rattle.std.specs.Option.{option_map}
+use Rattle.std.proofs.Common.{◌≡◌, ℕ, ◌<◌, List, [], ◌∷◌, Bool, true, false, cond, ◌&&◌, length, Contains, inl, inr, arith, refl, sym, ap, subst}
+use Rattle.std.specs.Prelude.{Option, Some, None, ◌==◌, nat_lt}
 use Rattle.std.proofs.lemmas.Bool.{cases_eq, eqb-true, eq-eqb, ne_eqb}
 use Rattle.std.proofs.lemmas.Bool.Decides.{nat_tests}
-use Rattle.std.proofs.lemmas.List.Elements.{Contains-append_left, Contains-append_right, Contains-append_cases}
-use Rattle.std.proofs.lemmas.Option.{slice_get_within, same_Some}
 use Rattle.orders.specs.Orders.{nodes_below}
-use Rattle.orders.proofs.Below.{has-below}
-use Rattle.orders.proofs.Members.{Contains-nil, Contains-head, Contains-tail, Contains-cons_cases, Contains-flat_map, Contains-flat_map_back}
-use Rattle.test_lang.specs.declared.op.Op.{Op}
+use Rattle.orders.proofs.Members.{Contains-nil, Contains-cons_cases, Contains-flat_map_back}
 use Rattle.test_lang.specs.declared.op.MemModel.{MemModel}
-use Rattle.test_lang.specs.Program.{Program, nodes, all_nodes, op_count, at_node}
-use Rattle.test_lang.specs.Values.{is_load, is_store, is_load_at, is_store_at, same_thread, one_word, value_of, load_nodes}
+use Rattle.test_lang.specs.Program.{Program, op_count, at_node}
+use Rattle.test_lang.specs.Values.{is_store, is_load_at, is_store_at, same_thread, one_word, value_of}
 use Rattle.test_lang.specs.Runs.{value_read, writes_for}
 use Rattle.test_lang.specs.Edges.{Edge}
-use Rattle.test_lang.specs.Edges.Edge.{kept, reads_from, before_later, before_any}
+use Rattle.test_lang.specs.Edges.Edge.{reads_from, before_later, before_any}
 use Rattle.test_lang.proofs.EdgeTests.{at_node-below}
 use Rattle.test_lang.proofs.Ranks.{one_store}
-use Rattle.digraph.specs.Digraph.{HasEdge}
 use Rattle.graph_model.specs.FewKept.{edge_to}
 use Rattle.graph_model.specs.LoadEdges.{store_of, next_store, first_store, edges_to_first_stores, edges_by_store, edges_of_load}
 use Rattle.graph_model.proofs.Beside.{both, both_true}
-use Rattle.graph_model.proofs.Chains.{edge_to_is, only}
-use Rattle.graph_model.proofs.Found.{IsFound, find_below-some, find_below-is}
+use Rattle.graph_model.proofs.Chains.{edge_to_is}
+use Rattle.graph_model.proofs.Found.{find_below-some, find_below-is}
 
 -- what the searches find
 

@@ -1,6 +1,6 @@
 -- The list of a load's edges, as it is put together.
-use Rattle.std.proofs.Common.{◌≡◌, ℕ, zero, suc, ◌+◌, ◌*◌, ◌<◌, ◌≤◌, List, [], ◌∷◌, ◌++◌, Bool, true, false, cond, ◌&&◌, length, get_or, arith, refl, sym, ap, subst, ◌∙◌, length-append, append-nil, append_assoc}
-use Rattle.std.specs.Prelude.{find, Option, Some, None, slice_get, ◌==◌}
+use Rattle.std.proofs.Common.{◌≡◌, ℕ, suc, ◌+◌, ◌*◌, ◌<◌, ◌≤◌, List, [], ◌∷◌, ◌++◌, Bool, true, ◌&&◌, length, get_or, arith, refl, sym, ap, subst, ◌∙◌, length-append, append-nil, append_assoc}
+use Rattle.std.specs.Prelude.{Option, Some, None, slice_get, ◌==◌}
 use Rattle.std.specs.Option.{option_map}
 use Rattle.std.specs.List.{flat_map}
 use Rattle.std.proofs.lemmas.Bool.Decides.{nat_tests}
@@ -10,13 +10,13 @@ use Rattle.std.proofs.lemmas.Option.{get_or_from_slice_get}
 use Rattle.orders.specs.Orders.{nodes_below}
 use Rattle.orders.proofs.Below.{length-below}
 use Rattle.test_lang.specs.declared.op.Op.{Op}
-use Rattle.test_lang.specs.declared.op.Op.TheVariants.{Load, Store, Fence}
+use Rattle.test_lang.specs.declared.op.Op.TheVariants.{Load}
 use Rattle.test_lang.specs.Program.{Program, nodes, op_at, op_count, at_node, passes, passes_after}
-use Rattle.test_lang.specs.Values.{is_store, is_of, same_word, is_store_at, is_load_at, one_word, same_thread, value_of, rank_of, load_nodes, store_count}
+use Rattle.test_lang.specs.Values.{is_store, is_of, same_word, is_store_at, is_load_at, value_of, rank_of, load_nodes, store_count}
 use Rattle.test_lang.specs.Runs.{value_read, writes_for, IsInside}
 use Rattle.digraph.specs.Roomed.{Roomed}
 use Rattle.graph_model.specs.FewKept.{edge_to}
-use Rattle.graph_model.specs.LoadEdges.{first_store, next_store, store_of, edges_to_first_stores, edges_by_store, edges_of_load}
+use Rattle.graph_model.specs.LoadEdges.{first_store, store_of, edges_to_first_stores, edges_by_store, edges_of_load}
 use Rattle.graph_model.specs.StoreTables.{is_store_to, first_store_to, HasFirstStores}
 use Rattle.graph_model.proofs.Found.{find-same}
 use Rattle.graph_model.proofs.LaterStores.{value_read-le}

@@ -1,5 +1,5 @@
 -- The graph of few kept pairs is a static graph.
-use Rattle.std.proofs.Common.{◌≡◌, ◌*◌, ◌≤◌, ℕ, List, length, sym, ap, subst}
+use Rattle.std.proofs.Common.{◌≡◌, ◌*◌, ◌≤◌, ℕ, List, length, sym, subst}
 use Rattle.std.specs.Prelude.{Option}
 use Rattle.orders.proofs.FewEdges.{reach_by_few, reach_by_all}
 use Rattle.orders.specs.Reductions.{IsAmong, IsReaching}
@@ -7,7 +7,7 @@ use Rattle.test_lang.specs.declared.op.MemModel.{MemModel}
 use Rattle.test_lang.specs.Program.{Program, op_count}
 use Rattle.digraph.specs.Digraph.{Digraph, HasEdge}
 use Rattle.graph_model.specs.FewKept.{few_kept}
-use Rattle.graph_model.specs.StaticGraph.{StaticGraph, IsStaticGraph, Kept}
+use Rattle.graph_model.specs.StaticGraph.{IsStaticGraph, Kept}
 use Rattle.graph_model.specs.StoreTables.{HasNextStores, HasFirstStores}
 use Rattle.graph_model.specs.Tabled.{IsTabled}
 use Rattle.graph_model.proofs.Chains.{few_kept-among, few_kept-reaching}

@@ -1,24 +1,23 @@
 -- The tables of stores.
-use Rattle.std.proofs.Common.{◌≡◌, ◌≢◌, ◌⊎◌, ℕ, zero, suc, ◌+◌, ◌-◌, ◌*◌, ◌<◌, ◌≤◌, List, [], ◌∷◌, ◌++◌, Bool, true, false, cond, ◌&&◌, length, get_or, set, take, drop, inl, inr, arith, refl, sym, ap, subst, ◌∙◌, get_or-set_same, get_or-set_other, append-nil}
+use Rattle.std.proofs.Common.{◌≡◌, ℕ, suc, ◌+◌, ◌-◌, ◌*◌, ◌<◌, ◌≤◌, List, ◌++◌, Bool, true, false, cond, ◌&&◌, length, get_or, set, take, drop, inl, inr, arith, refl, sym, ap, ◌∙◌, get_or-set_same, get_or-set_other, append-nil}
 use Rattle.std.proofs.lemmas.List.{take_all, drop_all}
 use Rattle.std.specs.Prelude.{find, Option, Some, None, slice_get, ◌==◌, nat_lt}
-use Rattle.std.specs.Option.{option_map, option_or}
-use Rattle.std.proofs.lemmas.Bool.{cases_eq, cases_lt, cases_order, eqb-true, eq-eqb, ne_eqb}
+use Rattle.std.specs.Option.{option_or}
+use Rattle.std.proofs.lemmas.Bool.{cases_eq, cases_lt, cases_order, eqb-true}
 use Rattle.std.proofs.lemmas.Bool.Decides.{nat_tests}
 use Rattle.orders.specs.Orders.{nodes_below}
 use Rattle.test_lang.specs.declared.op.Op.{Op}
-use Rattle.test_lang.specs.declared.op.Op.TheVariants.{Load, Store, Fence}
-use Rattle.test_lang.specs.Program.{Program, nodes, op_at, thread_at, op_count, at_node, passes, passes_after}
-use Rattle.test_lang.specs.Values.{is_load, is_store, is_of, same_word, is_store_at, same_thread, one_word}
+use Rattle.test_lang.specs.declared.op.Op.TheVariants.{Store}
+use Rattle.test_lang.specs.Program.{Program, nodes, op_at, thread_at, op_count, passes, passes_after}
+use Rattle.test_lang.specs.Values.{is_store, is_of, same_word, is_store_at, same_thread, one_word}
 use Rattle.test_lang.proofs.Nodes.{node_at}
 use Rattle.graph_model.specs.declared.kinds.Kind.TheVariants.{StoreOfWord}
-use Rattle.graph_model.specs.FirstLast.{first_from}
 use Rattle.graph_model.specs.FewKept.{is_kind_beside, next_of_kind}
 use Rattle.graph_model.specs.LoadEdges.{next_store}
 use Rattle.graph_model.specs.StoreTables.{is_store_to}
-use Rattle.graph_model.proofs.Near.{IsFirst, first_from-some, first_found}
+use Rattle.graph_model.proofs.Near.{first_from-some, first_found}
 use Rattle.graph_model.proofs.Beside.{Is, both}
-use Rattle.graph_model.proofs.Found.{IsFound, find_below-is, find_below-none, find_below-suc}
+use Rattle.graph_model.proofs.Found.{find_below-is, find_below-none, find_below-suc}
 
 -- the next store of a thread to a word
 

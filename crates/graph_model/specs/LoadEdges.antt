@@ -1,5 +1,5 @@
 -- The few edges that a load adds to the kept pairs: from the store that it reads and to the first stores that are known to be later.
-use Rattle.std.specs.Prelude.{ℕ, List, [], ◌∷◌, ◌++◌, Bool, ◌&&◌, ◌==◌, nat_lt, find, Option, Some, None, if◌then◌else◌, length}
+use Rattle.std.specs.Prelude.{ℕ, List, [], ◌∷◌, ◌&&◌, ◌==◌, nat_lt, find, Option, Some, None, if◌then◌else◌, length}
 use Rattle.std.specs.List.{flat_map}
 use Rattle.orders.specs.Orders.{nodes_below}
 use Rattle.test_lang.specs.Program.{Program, all_nodes, at_node}

@@ -40,8 +40,9 @@ fn note_first_store(test: &Test, node: u32, table: &mut [Option<u32>])
     requires node { node < op_count test.now }
     requires room { length table.old ≡ test.now.words * length test.now.threads }
     ensures { (word thread : ℕ) → word < test.now.words → thread < length test.now.threads →
-        slice_index_or table.new (word * length test.now.threads + thread) None
-        ≡ option_or (slice_index_or table.old (word * length test.now.threads + thread) None) (if is_store_to test.now word thread node then Some node else None) }
+        let place = word * length test.now.threads + thread in
+        slice_index_or table.new place None
+        ≡ option_or (slice_index_or table.old place None) (if is_store_to test.now word thread node then Some node else None) }
 {
     let Op::Store { word } = test.op(node) else {
         return;

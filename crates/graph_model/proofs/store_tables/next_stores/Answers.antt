@@ -1,4 +1,4 @@
-use Rattle.std.proofs.Common.{◌≡◌, ◌≤◌, ◌<◌, ◌-◌, ◌∙◌, ℕ, List, Option, None, length, get_or, set, arith, subst, sym, length-set}
+use Rattle.std.proofs.Common.{◌≡◌, ◌≤◌, ◌<◌, ◌-◌, ◌∙◌, ℕ, Option, None, get_or, set, arith, subst, sym, length-set}
 use Rattle.test_lang.specs.Program.{op_count}
 use Rattle.graph_model.specs.LoadEdges.{next_store}
 use Rattle.graph_model.specs.NearestNodes.{first_node}

@@ -3,7 +3,7 @@ use Rattle.std.specs.Prelude.{IsTrue, slice_get}
 use Rattle.test_lang.specs.Program.{Program}
 use Rattle.test_lang.specs.Runs.{IsInside}
 use Rattle.test_lang.specs.Values.{is_store_at, value_of, load_nodes, rank_of}
-use Rattle.graph_model.specs.LoadEdges.{edges_by_store, edges_of_load, edges_to_first_stores}
+use Rattle.graph_model.specs.LoadEdges.{edges_by_store, edges_to_first_stores}
 use Rattle.graph_model.specs.StaticGraph.{StaticGraph}
 use Rattle.graph_model.proofs.LoadLists.{initial_edges, store_edges, value_few, filled, length-filled}
 use Rattle.graph_model.proofs.static_graph.Static.dynamic_into.Goals as goal

@@ -1,4 +1,4 @@
-use Rattle.std.proofs.Common.{◌≡◌, ◌+◌, ◌≤◌, length, arith, sym, ap, subst}
+use Rattle.std.proofs.Common.{◌+◌, ◌≤◌, length, arith, sym, ap, subst}
 use Rattle.test_lang.specs.Program.{Program}
 use Rattle.graph_model.specs.StaticGraph.{StaticGraph}
 use Rattle.graph_model.proofs.LoadLists.{first_told, firsts_step, ticks_step, firsts_room}
