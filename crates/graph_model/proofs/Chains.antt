@@ -1,5 +1,5 @@
 -- The few kept pairs are kept, and reach each kept pair.
-use Rattle.std.proofs.Common.{◌≡◌, ◌⊎◌, ℕ, zero, suc, ◌+◌, ◌-◌, ◌*◌, ◌<◌, ◌≤◌, List, [], ◌∷◌, ◌++◌, Bool, true, length, Contains, inl, inr, arith, refl, sym, ap, subst, ◌∙◌, length-append}
+use Rattle.std.proofs.Common.{◌≡◌, ℕ, zero, suc, ◌+◌, ◌-◌, ◌≤◌, List, [], ◌∷◌, true, Contains, inl, inr, arith, refl, sym, ap, subst}
 use Rattle.std.specs.Prelude.{Option, Some, None, IsTrue, slice_get}
 use Rattle.std.specs.List.{flat_map}
 use Rattle.std.proofs.lemmas.Bool.{cases_lt}
@@ -8,19 +8,18 @@ use Rattle.std.proofs.lemmas.Option.{slice_get_within}
 use Rattle.orders.specs.Orders.{nodes_below}
 use Rattle.orders.specs.Paths.{Reach}
 use Rattle.orders.specs.Reductions.{IsAmong, IsReaching}
-use Rattle.orders.proofs.Below.{has-below, length-below}
+use Rattle.orders.proofs.Below.{has-below}
 use Rattle.orders.proofs.FewEdges.{reach_append}
 use Rattle.orders.proofs.Members.{Contains-nil, Contains-head, Contains-tail, Contains-cons_cases, Contains-flat_map, Contains-flat_map_back}
 use Rattle.test_lang.specs.declared.op.Op.{Op}
 use Rattle.test_lang.specs.declared.op.MemModel.{MemModel}
 use Rattle.test_lang.specs.Program.{Program, nodes, op_at, op_count}
-use Rattle.test_lang.specs.Kept.{keeps, is_kept}
+use Rattle.test_lang.specs.Kept.{is_kept}
 use Rattle.digraph.specs.Digraph.{HasEdge}
 use Rattle.graph_model.specs.declared.kinds.Kind.{Kind}
-use Rattle.graph_model.specs.FirstLast.{last_below, first_from}
-use Rattle.graph_model.specs.FewKept.{is_kind, is_kind_beside, last_of_kind, next_of_kind, kinds_before, kinds_after, kinds_of, edge_from, edge_to, edges_into, edges_onward, few_kept}
+use Rattle.graph_model.specs.FewKept.{is_kind_beside, last_of_kind, next_of_kind, kinds_before, kinds_after, kinds_of, edge_from, edge_to, edges_into, edges_onward, few_kept}
 use Rattle.graph_model.proofs.Near.{last_below-some, last_found, first_from-some, first_found}
-use Rattle.graph_model.proofs.KindTables.{IsListed, Way, way, listed_kept, listed_after_kept, few_before, few_after}
+use Rattle.graph_model.proofs.KindTables.{IsListed, Way, way, listed_kept, listed_after_kept}
 use Rattle.graph_model.proofs.KindTables.Way.{by_last, by_next}
 use Rattle.graph_model.proofs.Beside.{Is, IsKeptPair, kept_pair, kept_of_pair, beside, is_beside, op_at-is}
 
@@ -33,14 +32,14 @@ contains_listed : (kinds : List Kind) (kind : Kind) → Contains kinds kind → 
 contains_listed [] kind h = absurd (Contains-nil kind h)
 contains_listed (k ∷ ks) kind h = elim (Contains-cons_cases k ks kind h) [ inl same ↦ inl same | inr more ↦ inr (contains_listed ks kind more) ]
 
-only : (x y a b : ℕ) → Contains {X = ℕ × ℕ} ((x, y) ∷ []) (a, b) → (x ≡ a) × (y ≡ b)
+pub only : (x y a b : ℕ) → Contains {X = ℕ × ℕ} ((x, y) ∷ []) (a, b) → (x ≡ a) × (y ≡ b)
 only x y a b h = elim (Contains-cons_cases (x, y) [] (a, b) h) [ inl same ↦ (ap (λ (e : ℕ × ℕ). e.0) same, ap (λ (e : ℕ × ℕ). e.1) same) | inr more ↦ absurd (Contains-nil (a, b) more) ]
 
-edge_from_is : (n : ℕ) (found : Option ℕ) (a b : ℕ) → Contains (edge_from n found) (a, b) → (found ≡ Some a) × (n ≡ b)
+pub edge_from_is : (n : ℕ) (found : Option ℕ) (a b : ℕ) → Contains (edge_from n found) (a, b) → (found ≡ Some a) × (n ≡ b)
 edge_from_is n None a b h = absurd (Contains-nil (a, b) h)
 edge_from_is n (Some k) a b h = let e = only k n a b h in (ap Some e.0, e.1)
 
-edge_to_is : (n : ℕ) (found : Option ℕ) (a b : ℕ) → Contains (edge_to n found) (a, b) → (n ≡ a) × (found ≡ Some b)
+pub edge_to_is : (n : ℕ) (found : Option ℕ) (a b : ℕ) → Contains (edge_to n found) (a, b) → (n ≡ a) × (found ≡ Some b)
 edge_to_is n None a b h = absurd (Contains-nil (a, b) h)
 edge_to_is n (Some k) a b h = let e = only n k a b h in (e.0, ap Some e.1)
 

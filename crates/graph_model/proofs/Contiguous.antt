@@ -1,14 +1,14 @@
 -- The nodes of a thread stand in a row: so a node of a kind that is nearest in all threads is the nearest in a thread, or there is none in it.
-use Rattle.std.proofs.Common.{◌≡◌, ◌⊎◌, ℕ, zero, suc, ◌+◌, ◌<◌, ◌≤◌, Bool, true, false, ◌&&◌, cond, inl, inr, arith, refl, sym, ap, subst, ◌∙◌}
+use Rattle.std.proofs.Common.{◌≡◌, ℕ, zero, suc, ◌<◌, ◌≤◌, Bool, true, false, ◌&&◌, cond, inl, inr, arith, refl, sym, ap, ◌∙◌}
 use Rattle.std.specs.Prelude.{◌-◌, Option, Some, None, IfSome, slice_get, ◌==◌}
 use Rattle.std.specs.Option.{option_map}
 use Rattle.std.proofs.lemmas.Bool.{cases_order}
 use Rattle.test_lang.specs.declared.op.Op.{Op}
 use Rattle.test_lang.specs.Program.{Program, nodes, op_at, thread_at, op_count, at_node, passes, passes_after}
 use Rattle.test_lang.specs.Values.{same_thread}
-use Rattle.test_lang.proofs.EdgeTests.{at_nodes-below, at_node-below}
+use Rattle.test_lang.proofs.EdgeTests.{at_nodes-below}
 use Rattle.test_lang.proofs.Nodes.{same_thread_iff}
-use Rattle.test_lang.proofs.Threads.{StandsIn, thread_at-stands, thread_at_some, earlier_thread, one_thread}
+use Rattle.test_lang.proofs.Threads.{StandsIn, thread_at-stands, thread_at_some, earlier_thread}
 use Rattle.graph_model.specs.declared.kinds.Kind.{Kind}
 use Rattle.graph_model.specs.FirstLast.{last_below, first_from}
 use Rattle.graph_model.specs.FewKept.{is_kind, is_kind_beside, in_thread, last_of_kind, next_of_kind}

@@ -1,12 +1,10 @@
 -- Which stores come after a load, by what the load gives.
-use Rattle.std.proofs.Common.{◌≡◌, ◌⊎◌, ℕ, ◌<◌, ◌≤◌, List, Bool, true, false, ◌&&◌, ◌||◌, inl, inr, arith, refl, sym, ap, subst, ◌∙◌}
-use Rattle.std.specs.Prelude.{nat_lt, slice_get, Option, Some, None}
+use Rattle.std.proofs.Common.{◌≡◌, ◌⊎◌, ℕ, ◌<◌, ◌≤◌, List, Bool, true, false, ◌&&◌, ◌||◌, inl, inr, arith, refl, sym, subst, ◌∙◌}
+use Rattle.std.specs.Prelude.{nat_lt}
 use Rattle.std.specs.Bool.{Decides}
 use Rattle.std.proofs.lemmas.Bool.Decides.{same_from_decides, Decides-like, Decides-or, Decides-and, Decides-ltb}
-use Rattle.std.specs.Option.{option_map}
-use Rattle.test_lang.specs.declared.op.Op.{Op}
-use Rattle.test_lang.specs.Program.{Program, nodes, op_at, passes, passes_after}
-use Rattle.test_lang.specs.Values.{is_load, is_store, same_word, is_load_at, is_store_at, same_thread, one_word, value_of, store_count}
+use Rattle.test_lang.specs.Program.{Program}
+use Rattle.test_lang.specs.Values.{is_load_at, is_store_at, same_thread, one_word, value_of, store_count}
 use Rattle.test_lang.specs.Runs.{IsInside, value_read, writes_for}
 use Rattle.test_lang.specs.EdgeList.{is_before_later, is_before_any}
 use Rattle.test_lang.proofs.EdgeTests.{IsLaterOf, decides_later, decides_any}

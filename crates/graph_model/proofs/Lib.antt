@@ -6,3 +6,10 @@ pub mod Chains
 pub mod Sizes
 pub mod Contiguous
 pub mod Passes
+pub mod Found
+pub mod LoadEdges
+pub mod FewRunEdges
+pub mod StoreTables
+pub mod Statics
+pub mod LoadLists
+pub mod RunOrders

@@ -1,5 +1,5 @@
 -- A pass over all nodes, in either direction: the edges so far, and what the table of nearest nodes tells.
-use Rattle.std.proofs.Common.{◌≡◌, ℕ, zero, suc, ◌+◌, ◌-◌, ◌*◌, ◌<◌, ◌≤◌, List, [], ◌∷◌, ◌++◌, Bool, false, cond, length, arith, refl, sym, ap, subst, ◌∙◌, length-append, append-nil, append_assoc}
+use Rattle.std.proofs.Common.{◌≡◌, ℕ, suc, ◌+◌, ◌-◌, ◌*◌, ◌<◌, ◌≤◌, List, [], ◌∷◌, ◌++◌, Bool, cond, length, arith, refl, sym, ap, subst, ◌∙◌, length-append, append-nil, append_assoc}
 use Rattle.std.specs.Prelude.{Option, Some, None, slice_get}
 use Rattle.std.specs.Option.{option_map}
 use Rattle.std.specs.List.{flat_map}
@@ -10,7 +10,7 @@ use Rattle.test_lang.specs.declared.op.MemModel.{MemModel}
 use Rattle.test_lang.specs.Program.{Program, nodes, op_at, op_count, at_node, passes}
 use Rattle.digraph.specs.Digraph.{Digraph}
 use Rattle.graph_model.specs.declared.nearest.Nearest.{Nearest}
-use Rattle.graph_model.specs.FirstLast.{last_below, first_from}
+use Rattle.graph_model.specs.FirstLast.{first_from}
 use Rattle.graph_model.specs.FewKept.{edges_into, edges_onward, with_edges}
 use Rattle.graph_model.specs.NearestNodes.{Tells, with_node, last_node, first_node}
 use Rattle.graph_model.proofs.Sizes.{length-into, length-onward}

@@ -1,5 +1,5 @@
 -- How many few kept pairs there are.
-use Rattle.std.proofs.Common.{◌≡◌, ℕ, zero, suc, ◌+◌, ◌-◌, ◌*◌, ◌≤◌, List, [], ◌∷◌, ◌++◌, length, arith, refl, ap, subst, length-append}
+use Rattle.std.proofs.Common.{ℕ, suc, ◌-◌, ◌*◌, ◌≤◌, List, [], ◌∷◌, length, arith, length-append}
 use Rattle.std.specs.Prelude.{Option, Some, None}
 use Rattle.std.specs.List.{flat_map}
 use Rattle.orders.specs.Orders.{nodes_below}
@@ -8,11 +8,10 @@ use Rattle.test_lang.specs.declared.op.Op.{Op}
 use Rattle.test_lang.specs.declared.op.MemModel.{MemModel}
 use Rattle.test_lang.specs.Program.{Program, op_at, op_count}
 use Rattle.graph_model.specs.declared.kinds.Kind.{Kind}
-use Rattle.graph_model.specs.FirstLast.{last_below, first_from}
 use Rattle.graph_model.specs.FewKept.{last_of_kind, next_of_kind, kinds_before, kinds_after, kinds_of, edge_from, edge_to, edges_into, edges_onward, few_kept}
 use Rattle.graph_model.proofs.KindTables.{few_before, few_after}
 
-length-flat_map_le : {X Y : Type 0} (f : X → List Y) (xs : List X) (k : ℕ) → ((x : X) → length (f x) ≤ k) → length (flat_map f xs) ≤ length xs * k
+pub length-flat_map_le : {X Y : Type 0} (f : X → List Y) (xs : List X) (k : ℕ) → ((x : X) → length (f x) ≤ k) → length (flat_map f xs) ≤ length xs * k
 length-flat_map_le f [] k h = omega arith
 length-flat_map_le f (x ∷ xs) k h =
     let here = h x in
@@ -24,7 +23,7 @@ length-edge_from : (n : ℕ) (found : Option ℕ) → length (edge_from n found)
 length-edge_from n None = omega arith
 length-edge_from n (Some k) = omega arith
 
-length-edge_to : (n : ℕ) (found : Option ℕ) → length (edge_to n found) ≤ 1
+pub length-edge_to : (n : ℕ) (found : Option ℕ) → length (edge_to n found) ≤ 1
 length-edge_to n None = omega arith
 length-edge_to n (Some k) = omega arith
 

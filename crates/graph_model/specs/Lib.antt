@@ -2,3 +2,8 @@ pub mod FirstLast
 pub mod FewKept
 pub mod WordTables
 pub mod NearestNodes
+pub mod LoadEdges
+pub mod StoreTables
+pub mod StaticGraph
+pub mod Tabled
+pub mod RunGraph

@@ -40,7 +40,13 @@ fn last_of_kind(test: &Test, nearest: &Nearest, kind: Kind, node: u32, op: Op) -
 }
 
 /// The first node of the kind after a node in its thread. The table tells the first nodes after it in all threads.
-fn next_of_kind(test: &Test, nearest: &Nearest, kind: Kind, node: u32, op: Op) -> Option<u32>
+pub(crate) fn next_of_kind(
+    test: &Test,
+    nearest: &Nearest,
+    kind: Kind,
+    node: u32,
+    op: Op,
+) -> Option<u32>
     requires op { op_at test.now node ≡ Some op }
     requires word { HasWord test.now op }
     requires words { length nearest.now.loads.items ≡ test.now.words }

@@ -5,10 +5,15 @@ mod few_kept;
 mod kept_order;
 mod kinds;
 mod nearest;
+mod reduction;
 mod run_edges;
+mod static_graph;
+mod store_tables;
 
 pub use kept_order::kept;
+pub use reduction::few_edges_order_a_run;
 pub use run_edges::edge;
+pub use static_graph::{Full, Static};
 
 #[cfg(test)]
 mod tests;

@@ -1,14 +1,19 @@
-//! Kept pairs and edges of worked runs, at every pair of nodes.
-ghost use Rattle.std.specs.Prelude.{◌≡◌, [], ◌∷◌, IfOk};
+//! Kept pairs and edges of worked tests and runs, all of them and the few.
+ghost use Rattle.std.specs.Prelude.{◌≡◌, ◌<◌, ◌≤◌, ◌+◌, [], ◌∷◌, length, IfOk};
 ghost use Rattle.test_lang.specs.Litmus.{store_buffering, two_stores_two_loads, message_passing_fences};
 ghost use Rattle.test_lang.specs.Runs.{IsInside};
+ghost use Rattle.test_lang.specs.Values.{load_count};
 
-use crate::{edge, kept};
+use crate::{Static, edge, kept};
+use digraph::{Edges, Graph, Pairs as _, Steps};
 use std::alloc::{AllocError, Global};
+use std::marker::Brand;
 use std::process::Abort;
+use std::sync::ledger::{Blank, Ledger};
 use std::test::Fail;
 use test_lang::op::{MemModel, Op};
 use test_lang::test::Test;
+use test_lang::text::fault::TestFault;
 
 type Pairs = &'static [(u32, u32)];
 
@@ -161,5 +166,182 @@ fn tso_lets_loads_pass_own_stores_of_their_word(rt: HostRuntime) -> Result<(), F
     ];
     let test = loads_behind_own_stores(rt.alloc())?;
     check(&rt, &test, &keeps, &[1, 0, 2, 0], &[(2, 3), (5, 0)]);
+    Ok(())
+}
+
+fn dynamic_counted<L: Ledger>(fixed: &Static, run: &[u32], rank: u32, out: &mut Edges, blank: Blank)
+    requires inside { IsInside fixed.now.test run.now }
+    requires rank { rank < load_count fixed.now.test }
+    requires room { 2 + length fixed.now.test.threads ≤ out.old.room }
+    requires name { blank.name ≡ L.name }
+    requires parts { blank.parts ≡ L.parts }
+    requires some { 0 < blank.parts }
+{
+    let mut steps = Steps::<L>::new(blank);
+    fixed.dynamic_into(run, rank, out, &mut steps);
+}
+
+fn dynamic(alloc: Global, fixed: &Static, run: &[u32], rank: u32) -> Result<Edges, AllocError>
+    requires inside { IsInside fixed.now.test run.now }
+    requires rank { rank < load_count fixed.now.test }
+{
+    let mut out = Edges::with_room(alloc, 2 + fixed.threads())?;
+    dynamic_counted::<Brand>(fixed, run, rank, &mut out, Blank::new(1));
+    Ok(out)
+}
+
+/// Checks the few edges of each load.
+fn check_loads(
+    rt: &impl Abort,
+    alloc: Global,
+    test: &Test,
+    run: &[u32],
+    want: &[Pairs],
+) -> Result<(), Fail>
+    requires { IsInside test.now run.now }
+{
+    let fixed = Static::of(alloc, test, MemModel::Weak)?;
+    assert_eq!(rt; want.len(), fixed.loads() as usize);
+    assert_eq!(rt; fixed.threads(), test.threads());
+    for rank in 0..fixed.loads() {
+        let out = dynamic(alloc, &fixed, run, rank)?;
+        assert_eq!(rt; out.list(), want[rank as usize], "rank {rank}");
+    }
+    Ok(())
+}
+
+/// Three threads, of which two store to the word that the other one loads.
+fn stores_on_both_sides(alloc: Global) -> Result<Test, AllocError>
+    ensures { IfOk result (λ t. t ≡ record {
+      words = 1;
+      threads =
+          (Op.Store 0 ∷ Op.Store 0 ∷ []) ∷ (Op.Load 0 ∷ []) ∷ (Op.Store 0 ∷ []) ∷ [];
+    }) }
+{
+    let mut test = Test::new(alloc, 1);
+    test.add_thread()?;
+    test.add_op(Op::Store { word: 0 })?;
+    test.add_op(Op::Store { word: 0 })?;
+    test.add_thread()?;
+    test.add_op(Op::Load { word: 0 })?;
+    test.add_thread()?;
+    test.add_op(Op::Store { word: 0 })?;
+    Ok(test)
+}
+
+#[test]
+fn few_edges_of_loads(rt: HostRuntime) -> Result<(), Fail> {
+    let test = buffering(rt.alloc())?;
+    check_loads(&rt, rt.alloc(), &test, &[0, 1], &[&[(1, 2)], &[(0, 3)]])?;
+    let test = stores_against_loads(rt.alloc())?;
+    check_loads(
+        &rt,
+        rt.alloc(),
+        &test,
+        &[1, 2],
+        &[&[(0, 2), (2, 1)], &[(1, 3)]],
+    )?;
+    let test = loads_behind_own_stores(rt.alloc())?;
+    check_loads(
+        &rt,
+        rt.alloc(),
+        &test,
+        &[1, 0, 2, 0],
+        &[&[], &[(2, 3)], &[], &[(5, 0)]],
+    )?;
+    let test = stores_on_both_sides(rt.alloc())?;
+    check_loads(&rt, rt.alloc(), &test, &[0], &[&[(2, 0), (2, 3)]])
+}
+
+#[test]
+fn all_edges_as_a_test(rt: HostRuntime) -> Result<(), Fail> {
+    let test = buffering(rt.alloc())?;
+    let fixed = Static::of(rt.alloc(), &test, MemModel::Tso)?;
+    let full = fixed.full(&[0, 1]);
+    assert_eq!(rt; full.nodes(), 4);
+    assert!(rt; full.edge(0, 3) && full.edge(1, 2) && !full.edge(0, 1));
+    Ok(())
+}
+
+fn edges_of(alloc: Global, graph: &Graph) -> Result<Vec<(u32, u32)>, AllocError> {
+    let mut edges = Vec::new(alloc);
+    for edge in 0..graph.edges() {
+        edges.push((graph.source(edge), graph.target(edge)))?;
+    }
+    Ok(edges)
+}
+
+/// Loads, stores and fences of two words.
+const MIXED: &[u8] =
+    b"mtest 1\nwords 2\nthread\nst 0\nld 0\nst 0\nld 1\nfence\nld 0\nst 1\nthread\nld 0\nst 0\nst 0\nend\n";
+
+fn read_test(alloc: Global, text: &[u8]) -> Result<Test, TestFault> {
+    Ok(Test::read(alloc, text)?.test)
+}
+
+#[test]
+fn few_kept_pairs(rt: HostRuntime) -> Result<(), Fail> {
+    let rows: [(MemModel, Pairs); 3] = [
+        (
+            MemModel::Sc,
+            &[
+                (0, 1),
+                (1, 2),
+                (2, 3),
+                (3, 4),
+                (4, 5),
+                (5, 6),
+                (7, 8),
+                (8, 9),
+            ],
+        ),
+        (
+            MemModel::Tso,
+            &[
+                (1, 2),
+                (0, 2),
+                (1, 3),
+                (3, 4),
+                (2, 4),
+                (4, 5),
+                (5, 6),
+                (2, 6),
+                (7, 8),
+                (7, 9),
+                (8, 9),
+            ],
+        ),
+        (
+            MemModel::Weak,
+            &[
+                (1, 2),
+                (0, 2),
+                (1, 5),
+                (4, 5),
+                (3, 6),
+                (4, 6),
+                (7, 8),
+                (7, 9),
+                (8, 9),
+                (3, 4),
+                (2, 4),
+                (1, 4),
+                (0, 4),
+            ],
+        ),
+    ];
+    let test = read_test(rt.alloc(), MIXED)?;
+    for (model, want) in rows {
+        let fixed = Static::of(rt.alloc(), &test, model)?;
+        let edges = edges_of(rt.alloc(), fixed.graph())?;
+        assert_eq!(rt; edges.as_slice(), want, "{model:?}");
+        let mut copy = fixed.graph_with_room(rt.alloc(), 1)?;
+        assert_eq!(rt; copy.nodes(), 10);
+        copy.add(9, 0);
+        assert_eq!(rt; copy.edges(), fixed.graph().edges() + 1);
+        copy.truncate(fixed.graph().edges());
+        let edges = edges_of(rt.alloc(), &copy)?;
+        assert_eq!(rt; edges.as_slice(), want, "{model:?}");
+    }
     Ok(())
 }

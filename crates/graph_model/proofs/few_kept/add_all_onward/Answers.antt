@@ -1,4 +1,4 @@
-use Rattle.std.proofs.Common.{◌∙◌, ◌-◌, ◌<◌, arith}
+use Rattle.std.proofs.Common.{◌∙◌, ◌-◌, arith}
 use Rattle.test_lang.specs.Program.{op_count}
 use Rattle.graph_model.specs.NearestNodes.{first_node}
 use Rattle.graph_model.proofs.Passes.{onward_more, onward_room, tells_first}

@@ -1,4 +1,4 @@
-use Rattle.std.proofs.Common.{◌≡◌, ℕ, take}
+use Rattle.std.proofs.Common.{◌≡◌, take}
 use Rattle.std.specs.List.{flat_map}
 use Rattle.graph_model.specs.FewKept.{edge_to, next_of_kind, with_edges}
 use Rattle.graph_model.proofs.few_kept.add_onward.Given as goal

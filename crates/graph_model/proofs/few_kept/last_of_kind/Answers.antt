@@ -1,4 +1,4 @@
-use Rattle.std.proofs.Common.{◌<◌, ◌≤◌, ℕ, Option, Some, IfSome, arith, sym, ap, subst, ◌∙◌}
+use Rattle.std.proofs.Common.{◌<◌, ℕ, Option, IfSome, arith, sym, ap, subst, ◌∙◌}
 use Rattle.test_lang.specs.Program.{op_count}
 use Rattle.graph_model.specs.FewKept.{in_thread, is_kind}
 use Rattle.graph_model.specs.NearestNodes.{last_node}

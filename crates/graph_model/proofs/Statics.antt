@@ -1,0 +1,35 @@
+-- The graph of few kept pairs is a static graph.
+use Rattle.std.proofs.Common.{◌≡◌, ◌*◌, ◌≤◌, ℕ, List, length, sym, subst}
+use Rattle.std.specs.Prelude.{Option}
+use Rattle.orders.proofs.FewEdges.{reach_by_few, reach_by_all}
+use Rattle.orders.specs.Reductions.{IsAmong, IsReaching}
+use Rattle.test_lang.specs.declared.op.MemModel.{MemModel}
+use Rattle.test_lang.specs.Program.{Program, op_count}
+use Rattle.digraph.specs.Digraph.{Digraph, HasEdge}
+use Rattle.graph_model.specs.FewKept.{few_kept}
+use Rattle.graph_model.specs.StaticGraph.{IsStaticGraph, Kept}
+use Rattle.graph_model.specs.StoreTables.{HasNextStores, HasFirstStores}
+use Rattle.graph_model.specs.Tabled.{IsTabled}
+use Rattle.graph_model.proofs.Chains.{few_kept-among, few_kept-reaching}
+use Rattle.graph_model.proofs.Sizes.{length-few_kept}
+
+-- with these edges, and of a copy of the test
+pub static_of : (m : MemModel) (p copy : Program) (g : Digraph) → copy ≡ p → g.nodes ≡ op_count p → g.edges ≡ few_kept m p → IsStaticGraph (record { test = copy; model = m; graph = g })
+static_of m p copy g same nodes edges =
+    let among : IsAmong (HasEdge g.edges) (Kept m p) = subst (λ (e : List (ℕ × ℕ)). IsAmong (HasEdge e) (Kept m p)) (sym edges) (few_kept-among m p) in
+    let reaching : IsReaching (HasEdge g.edges) (Kept m p) = subst (λ (e : List (ℕ × ℕ)). IsReaching (HasEdge e) (Kept m p)) (sym edges) (few_kept-reaching m p) in
+    let sound : IsStaticGraph (record { test = p; model = m; graph = g }) = record {
+      nodes = nodes;
+      kept = among;
+      reach = λ a b. (reach_by_few (Kept m p) (HasEdge g.edges) reaching a b, reach_by_all (Kept m p) (HasEdge g.edges) among a b);
+      few = subst (λ (e : List (ℕ × ℕ)). length e ≤ 4 * op_count p) (sym edges) (length-few_kept m p);
+    } in
+    subst (λ (q : Program). IsStaticGraph (record { test = q; model = m; graph = g })) (sym same) sound
+
+pub tabled_of : (m : MemModel) (p copy : Program) (g : Digraph) (nexts firsts : List (Option ℕ)) → copy ≡ p → g.nodes ≡ op_count p → g.edges ≡ few_kept m p →
+    HasNextStores p nexts → HasFirstStores p firsts → IsTabled (record { test = copy; model = m; graph = g }) nexts firsts
+tabled_of m p copy g nexts firsts same nodes edges n f = record {
+  sound = static_of m p copy g same nodes edges;
+  nexts = subst (λ (q : Program). HasNextStores q nexts) (sym same) n;
+  firsts = subst (λ (q : Program). HasFirstStores q firsts) (sym same) f;
+}

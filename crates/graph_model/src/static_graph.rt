@@ -1,0 +1,98 @@
+//! What the graphs of all runs of a test have in common.
+ghost use Rattle.std.specs.Prelude.{◌≡◌, ◌+◌, ◌^◌, ◌<◌, ◌≤◌, length, IfOk};
+ghost use Rattle.test_lang.specs.Values.{load_count};
+ghost use Rattle.graph_model.specs.StaticGraph.{IsStaticGraph};
+
+use crate::few_kept::kept_graph;
+use crate::store_tables::{first_stores, next_stores};
+use digraph::Graph;
+use std::alloc::{AllocError, Global};
+use std::marker::Model;
+use test_lang::op::MemModel;
+use test_lang::test::Test;
+
+mod full_graph;
+mod load_edges;
+
+pub use full_graph::Full;
+
+/// The part of a run's constraint graph that doesn't depend on the run: a few kept pairs, along which the same nodes are reached as along all.
+///
+/// A layer that looks at one run after another takes one graph by `graph_with_room`, adds the edges that `dynamic_into` gives for each load, and
+/// takes them away again by `Graph::truncate`, back to the edges of `graph` or to those of the loads before the first that changed.
+#[derive(Drop)]
+pub struct Static {
+    test: Test,
+    model: MemModel,
+    graph: Graph,
+    /// For each node, the first store after it in its thread to its word.
+    next_stores: Vec<Option<u32>>,
+    /// For each word and each thread, the thread's first store to the word.
+    first_stores: Vec<Option<u32>>,
+}
+
+impl Model for Static {
+    ghost use Rattle.std.specs.Prelude.{ℕ};
+    ghost use Rattle.graph_model.specs.StaticGraph.{StaticGraph, IsStaticGraph};
+    ghost use Rattle.graph_model.specs.StoreTables.{HasFirstStores, HasNextStores};
+    ghost use Rattle.graph_model.specs.Tabled.{IsTabled};
+
+    ghost Value = { StaticGraph };
+
+    ghost view = { λ s. record { test = s.test; model = s.model; graph = s.graph } };
+
+    ghost invariant = { λ s. IsTabled (record { test = s.test; model = s.model; graph = s.graph }) s.next_stores.items s.first_stores.items };
+}
+
+impl Static {
+    /// The graph of few kept pairs of a test under a model. The error is want of memory.
+    pub fn of(alloc: Global, test: &Test, model: MemModel) -> Result<Static, AllocError>
+        ensures test { IfOk result (λ s. s.test ≡ test.now) }
+        ensures model { IfOk result (λ s. s.model ≡ model) }
+        ensures sound { IfOk result IsStaticGraph }
+    {
+        Ok(Static {
+            test: test.clone()?,
+            model,
+            graph: kept_graph(alloc, test, model)?,
+            next_stores: next_stores(alloc, test)?,
+            first_stores: first_stores(alloc, test)?,
+        })
+    }
+
+    /// The graph of few kept pairs.
+    pub fn graph(&self) -> &Graph
+        ensures graph { result.now ≡ self.now.graph }
+        ensures sound { IsStaticGraph self.now }
+    {
+        &self.graph
+    }
+
+    /// The number of loads of the test.
+    pub fn loads(&self) -> u32
+        ensures { result ≡ load_count self.now.test }
+    {
+        self.test.loads()
+    }
+
+    /// The number of threads of the test.
+    pub fn threads(&self) -> u32
+        ensures count { result ≡ length self.now.test.threads }
+        ensures few { result ≤ 16 }
+    {
+        self.test.threads()
+    }
+
+    /// A copy of `graph` with room for so many more edges. The error is want of memory.
+    pub fn graph_with_room(&self, alloc: Global, more: u32) -> Result<Graph, AllocError>
+        requires { length self.now.graph.edges + more < 2 ^ 32 }
+        ensures { IfOk result (λ copy. copy ≡ record self.now.graph { room = length self.now.graph.edges + more }) }
+    {
+        let edges = self.graph.edges();
+        let mut copy = Graph::with_room(alloc, self.graph.nodes(), edges + more)?;
+        for edge in 0..edges {
+            copy.add(self.graph.source(edge), self.graph.target(edge));
+        }
+        Ok(copy)
+    }
+}
