@@ -1,0 +1,5 @@
+mod Pieces
+mod Digits
+mod Walk
+mod Counts
+mod Whole
