@@ -53,3 +53,8 @@ pub outsides-le : (pairs : List (Outcome × ℕ)) → length (outsides pairs) �
 outsides-le [] = omega arith
 outsides-le ((Inside words, count) ∷ more) = omega (arith, outsides-le more)
 outsides-le ((Outside node value, count) ∷ more) = omega (arith, outsides-le more)
+
+pub signatures-le : (pairs : List (Outcome × ℕ)) → length (signatures pairs) ≤ length pairs
+signatures-le [] = omega arith
+signatures-le ((Inside words, count) ∷ more) = omega (arith, signatures-le more)
+signatures-le ((Outside node value, count) ∷ more) = omega (arith, signatures-le more)
