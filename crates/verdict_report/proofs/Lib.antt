@@ -1,4 +1,3 @@
-mod Pieces
 mod Digits
 mod Walk
 mod Counts
