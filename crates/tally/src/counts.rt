@@ -1,5 +1,5 @@
 //! How often each outcome occurred.
-ghost use Rattle.std.specs.Prelude.{◌≡◌, ℕ, ◌+◌, ◌-◌, ◌^◌, ◌<◌, List, [], ◌∷◌, ◌++◌, OnOk, IfErr, Some};
+ghost use Rattle.std.specs.Prelude.{◌≡◌, ℕ, ◌+◌, ◌-◌, ◌^◌, ◌<◌, List, [], ◌∷◌, ◌++◌, length, OnOk, IfErr, Some};
 ghost use Rattle.std.specs.BTreeMap.{Updates, IsOrdered};
 ghost use Rattle.tally.specs.declared.outcome.Outcome.{Outcome};
 ghost use Rattle.tally.specs.Outcomes.{outcome_cmp};
@@ -62,6 +62,7 @@ impl Tally {
     /// The pairs of an outcome and its count, in the order of outcomes.
     pub fn iter(&self) -> TallyIter<'_>
         ensures pairs { result ≡ self.now }
+        ensures few { length self.now < 2 ^ 63 }
         ensures sound { IsCounts self.now }
     {
         TallyIter {

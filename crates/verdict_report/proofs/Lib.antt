@@ -1,0 +1,4 @@
+mod Digits
+mod Walk
+mod Counts
+mod Whole

@@ -1,0 +1,83 @@
+-- The report, line by line.
+use Rattle.std.specs.Prelude.{ℕ, List, [], ◌∷◌, ◌++◌, Bool, true, false, not, map, length, count_by, codes}
+use Rattle.std.specs.Fmt.{decimal}
+use Rattle.std.specs.List.{flat_map, zip}
+use Rattle.tally.specs.declared.outcome.Outcome.{Outcome}
+use Rattle.tally.specs.declared.outcome.Outcome.TheVariants.{Inside, Outside}
+use Rattle.test_lang.specs.Text.Line.{closed}
+use Rattle.test_lang.specs.declared.op.MemModel.{MemModel}
+use Rattle.test_lang.specs.declared.op.MemModel.TheVariants.{Sc, Tso, Weak}
+use Rattle.verdict_report.specs.declared.report.Judged.{Judged}
+use Rattle.verdict_report.specs.declared.report.Judged.TheVariants.{Ok, Cycle}
+use Rattle.verdict_report.specs.declared.report.Work.{Work}
+use Rattle.verdict_report.specs.declared.report.Report.{Report}
+use Rattle.verdict_report.specs.Numbers.{part, signature_text}
+
+-- a word and a number, each behind a space
+abbrev pub named : List ℕ → ℕ → List ℕ
+named name number = part name ++ part (decimal number)
+
+abbrev pub model_name : MemModel → List ℕ
+model_name Sc = codes "sc"
+model_name Tso = codes "tso"
+model_name Weak = codes "weak"
+
+-- the first three lines
+abbrev pub head_lines : MemModel → ℕ → List (List ℕ)
+head_lines model runs = codes "mtrace 1" ∷ (codes "model" ++ part (model_name model)) ∷ (codes "runs" ++ part (decimal runs)) ∷ []
+
+-- the signatures of a tally, rising, with their counts
+abbrev pub signatures : List (Outcome × ℕ) → List (List ℕ × ℕ)
+signatures [] = []
+signatures ((Inside words, count) ∷ more) = (words, count) ∷ signatures more
+signatures ((Outside node value, count) ∷ more) = signatures more
+
+-- the outcomes outside, by node and then by value, each the node, the value and the count
+abbrev pub outsides : List (Outcome × ℕ) → List (ℕ × ℕ × ℕ)
+outsides [] = []
+outsides ((Inside words, count) ∷ more) = outsides more
+outsides ((Outside node value, count) ∷ more) = (node, value, count) ∷ outsides more
+
+-- what stands of a verdict behind the count
+abbrev pub verdict_text : Judged → List ℕ
+verdict_text Ok = codes " ok"
+verdict_text (Cycle nodes) = codes " cycle" ++ flat_map (λ node. part (decimal node)) nodes.list
+
+-- the line of a signature with its count, and of its verdict
+abbrev pub signature_line : (List ℕ × ℕ) × Judged → List ℕ
+signature_line (signature, judged) = codes "sig " ++ signature_text signature.0 ++ named (codes "count") signature.1 ++ verdict_text judged
+
+-- the line of an outcome outside
+abbrev pub outside_line : ℕ × ℕ × ℕ → List ℕ
+outside_line outside = codes "outside" ++ part (decimal outside.0) ++ named (codes "value") outside.1 ++ named (codes "count") outside.2
+
+-- A line for each distinct signature, then one for each distinct outcome outside.
+abbrev pub outcome_lines : List (Outcome × ℕ) → List Judged → List (List ℕ)
+outcome_lines tally found = map signature_line (zip (signatures tally) found) ++ map outside_line (outsides tally)
+
+abbrev pub is_ok : Judged → Bool
+is_ok Ok = true
+is_ok (Cycle nodes) = false
+
+abbrev pub is_cycle : Judged → Bool
+is_cycle judged = not (is_ok judged)
+
+-- how many lines there are of signatures, of those with each verdict, and of outcomes outside
+abbrev pub sum_line : ℕ → ℕ → ℕ → ℕ → List ℕ
+sum_line signatures ok cycle outside =
+    codes "sum" ++ named (codes "signatures") signatures ++ named (codes "ok") ok ++ named (codes "cycle") cycle ++ named (codes "outside") outside
+
+abbrev pub work_line : Work → List ℕ
+work_line work =
+    codes "work" ++ named (codes "chunks") work.chunks ++ named (codes "full") work.full ++ named (codes "kept") work.kept
+    ++ named (codes "resorted") work.resorted ++ named (codes "nodes") work.nodes
+
+abbrev pub report_lines : Report → List (List ℕ)
+report_lines report =
+    head_lines report.model report.runs ++ outcome_lines report.tally.now report.found.now
+    ++ sum_line (length (signatures report.tally.now)) (count_by is_ok report.found.now) (count_by is_cycle report.found.now) (length (outsides report.tally.now))
+    ∷ work_line report.work ∷ []
+
+-- The text of a report: its lines, each closed by a line feed.
+abbrev pub report_text : Report → List ℕ
+report_text report = closed (report_lines report)

@@ -1,0 +1,13 @@
+//! The text of a report: the verdicts on the outcomes of a test's runs.
+#![tactic(auto)]
+
+mod lines;
+mod numbers;
+mod report;
+mod writing;
+
+pub use report::{Judged, Report, Work};
+pub use writing::text;
+
+#[cfg(test)]
+mod tests;
