@@ -14,7 +14,7 @@ use Rattle.test_lang.specs.Values.{is_load, is_store, is_load_at, is_store_at, s
 use Rattle.test_lang.specs.Runs.{last_or_0, own_earlier, writes_for, base, others, candidates, value_read, reads_candidate, IsInside}
 use Rattle.test_lang.proofs.EdgeTests.{at_node-below, not-true}
 
-last_or_0-push : (xs : List ℕ) (x : ℕ) → last_or_0 (xs ++ x ∷ []) ≡ x
+pub last_or_0-push : (xs : List ℕ) (x : ℕ) → last_or_0 (xs ++ x ∷ []) ≡ x
 last_or_0-push [] x = refl
 last_or_0-push (y ∷ []) x = refl
 last_or_0-push (y ∷ z ∷ zs) x = last_or_0-push (z ∷ zs) x

@@ -7,4 +7,5 @@ pub mod Signatures
 pub mod Edges
 pub mod EdgeList
 pub mod Litmus
+pub mod Targets
 pub mod Text

@@ -4,5 +4,6 @@
 pub mod edges;
 pub mod litmus;
 pub mod op;
+pub mod target;
 pub mod test;
 pub mod text;
