@@ -1,3 +1,4 @@
 pub mod Outcomes
 pub mod OutcomeLaws
 pub mod Tallies
+pub mod Counting

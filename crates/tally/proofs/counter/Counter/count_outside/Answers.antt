@@ -1,0 +1,5 @@
+use Rattle.tally.proofs.counter.Counter.count_outside.Goals as goal
+use Rattle.tally.proofs.counter.Counter.count_outside.Goals.{in-Ok, in-Err}
+
+pub returns-clause-counted : goal.returns-clause-counted
+returns-clause-counted c = elim c.match-add.branch [ in-Ok w ↦ rw (w.result-is, ← c.self.view_is) w.in-Ok.ensures.tally | in-Err w ↦ rw w.result-is tt ]
