@@ -1,7 +1,7 @@
 -- The report, line by line.
 use Rattle.std.specs.Prelude.{ℕ, List, [], ◌∷◌, ◌++◌, Bool, true, false, not, map, length, count_by, codes}
 use Rattle.std.specs.Fmt.{decimal}
-use Rattle.std.specs.List.{flat_map, zip}
+use Rattle.std.specs.List.{flat_map, list_any, zip}
 use Rattle.tally.specs.declared.outcome.Outcome.{Outcome}
 use Rattle.tally.specs.declared.outcome.Outcome.TheVariants.{Inside, Outside}
 use Rattle.test_lang.specs.Text.Line.{closed}
@@ -72,12 +72,29 @@ work_line work =
     codes "work" ++ named (codes "chunks") work.chunks ++ named (codes "full") work.full ++ named (codes "kept") work.kept
     ++ named (codes "resorted") work.resorted ++ named (codes "nodes") work.nodes
 
-abbrev pub report_lines : Report → List (List ℕ)
-report_lines report =
-    head_lines report.model report.runs ++ outcome_lines report.tally.now report.found.now
-    ++ sum_line (length (signatures report.tally.now)) (count_by is_ok report.found.now) (count_by is_cycle report.found.now) (length (outsides report.tally.now))
-    ∷ work_line report.work ∷ []
+-- The lines of a report on so many runs, with their tally, the verdicts on its signatures, and the numbers of work.
+abbrev pub report_lines_of : MemModel → ℕ → List (Outcome × ℕ) → List Judged → Work → List (List ℕ)
+report_lines_of model runs tally found work =
+    head_lines model runs ++ outcome_lines tally found
+    ++ sum_line (length (signatures tally)) (count_by is_ok found) (count_by is_cycle found) (length (outsides tally))
+    ∷ work_line work ∷ []
 
--- The text of a report: its lines, each closed by a line feed.
+-- the lines, each closed by a line feed
+abbrev pub report_text_of : MemModel → ℕ → List (Outcome × ℕ) → List Judged → Work → List ℕ
+report_text_of model runs tally found work = closed (report_lines_of model runs tally found work)
+
+-- The text of a report.
 abbrev pub report_text : Report → List ℕ
-report_text report = closed (report_lines report)
+report_text report = report_text_of report.model report.runs report.tally.now report.found.now report.work
+
+abbrev pub is_outside : Outcome → Bool
+is_outside (Inside words) = false
+is_outside (Outside node value) = true
+
+-- some verdict is a cycle
+abbrev pub has_cycle : List Judged → Bool
+has_cycle found = list_any is_cycle found
+
+-- some outcome is outside
+abbrev pub has_outside : List (Outcome × ℕ) → Bool
+has_outside tally = list_any (λ pair. is_outside pair.0) tally

@@ -1,6 +1,7 @@
 //! The text of a report: the verdicts on the outcomes of a test's runs.
 #![tactic(auto)]
 
+mod clean;
 mod lines;
 mod numbers;
 mod report;

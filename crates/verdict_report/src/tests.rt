@@ -23,6 +23,8 @@ struct Case<'a> {
     /// Chunks, full, kept, resorted, nodes.
     work: [u64; 5],
     want: &'a str,
+    /// Whether `want` has neither a cycle nor an outcome outside.
+    clean: bool,
 }
 
 /// Adds an outcome, where the tally isn't full.
@@ -75,7 +77,8 @@ fn count_signatures(tally: &Tally) -> usize
     count
 }
 
-fn written(alloc: Global, case: &Case<'_>) -> Result<Vec<u8>, Fail> {
+/// The text of the case's report, and whether it is clean.
+fn written(alloc: Global, case: &Case<'_>) -> Result<(Vec<u8>, bool), Fail> {
     let tally = tally_of(alloc, case)?;
     let mut found = Vec::new(alloc);
     for cycle in case.cycles {
@@ -98,7 +101,7 @@ fn written(alloc: Global, case: &Case<'_>) -> Result<Vec<u8>, Fail> {
             nodes,
         },
     };
-    Ok(text(alloc, &report)?)
+    Ok((text(alloc, &report)?, report.is_clean()))
 }
 
 #[test]
@@ -115,6 +118,7 @@ fn reports_are_written(rt: HostRuntime) -> Result<(), Fail> {
                 sig 0000000000000000.0000000000000000 count 1 cycle 0 1 2 3\n\
                 sum signatures 1 ok 0 cycle 1 outside 0\n\
                 work chunks 1 full 1 kept 0 resorted 0 nodes 0\n",
+            clean: false,
         },
         Case {
             model: MemModel::Tso,
@@ -127,6 +131,7 @@ fn reports_are_written(rt: HostRuntime) -> Result<(), Fail> {
                 sig 0000000000000000.0000000000000000 count 1 ok\n\
                 sum signatures 1 ok 1 cycle 0 outside 0\n\
                 work chunks 1 full 1 kept 0 resorted 0 nodes 0\n",
+            clean: true,
         },
         Case {
             model: MemModel::Sc,
@@ -151,6 +156,7 @@ fn reports_are_written(rt: HostRuntime) -> Result<(), Fail> {
                 sig 0000000000000001.0000000000000001 count 2 ok\n\
                 sum signatures 4 ok 3 cycle 1 outside 0\n\
                 work chunks 1 full 2 kept 0 resorted 2 nodes 6\n",
+            clean: false,
         },
         Case {
             model: MemModel::Sc,
@@ -165,6 +171,7 @@ fn reports_are_written(rt: HostRuntime) -> Result<(), Fail> {
                 outside 2 value 9 count 1\n\
                 sum signatures 0 ok 0 cycle 0 outside 3\n\
                 work chunks 0 full 0 kept 0 resorted 0 nodes 0\n",
+            clean: false,
         },
         Case {
             model: MemModel::Weak,
@@ -176,6 +183,7 @@ fn reports_are_written(rt: HostRuntime) -> Result<(), Fail> {
             want: "mtrace 1\nmodel weak\nruns 0\n\
                 sum signatures 0 ok 0 cycle 0 outside 0\n\
                 work chunks 0 full 0 kept 0 resorted 0 nodes 0\n",
+            clean: true,
         },
         Case {
             model: MemModel::Weak,
@@ -207,11 +215,13 @@ fn reports_are_written(rt: HostRuntime) -> Result<(), Fail> {
                 outside 4000000000 value 7 count 2\n\
                 sum signatures 4 ok 2 cycle 2 outside 3\n\
                 work chunks 12 full 345 kept 18446744073709551615 resorted 6 nodes 1000000\n",
+            clean: false,
         },
     ];
     for case in &cases {
-        let out = written(rt.alloc(), case)?;
+        let (out, clean) = written(rt.alloc(), case)?;
         assert_eq!(rt; out.as_slice(), case.want.as_bytes());
+        assert_eq!(rt; clean, case.clean);
     }
     Ok(())
 }
