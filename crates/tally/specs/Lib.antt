@@ -2,3 +2,4 @@ pub mod Outcomes
 pub mod OutcomeLaws
 pub mod Tallies
 pub mod Counting
+pub mod Rows

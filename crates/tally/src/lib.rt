@@ -1,6 +1,7 @@
 //! Outcomes of runs, their order, and how often each occurred.
 #![tactic(auto)]
 
+mod batch;
 mod counter;
 mod counts;
 pub mod laws;
