@@ -27,7 +27,8 @@ pub record Says (rows : List Row) (s : Settings) : Type 0 where
   pub runs : value rows runs_option ≡ Some s.runs
   pub generated : SaysGen rows s.gen_settings
 
--- What settings have to be to one another: the machine can carry the fault, and no test that is drawn is too large.
+-- What settings have to be to one another: the machine can carry the fault, no drawn test has too many
+-- operations, and no more than a hundred of a hundred operations are stores and fences.
 pub record AreConsistent (s : Settings) : Type 0 where
   pub carried : fits s.target s.fault ≡ true
   pub operations : s.gen_settings.threads * s.gen_settings.ops ≤ 2048

@@ -130,3 +130,9 @@ pub(crate) const NAMES: [OptionRow; 3] = [MODEL, TARGET, FAULT];
 pub(crate) const NUMBERS: [NumberRow; 10] = [
     CHUNK, WORKERS, RUNNERS, RUNS, SEED, THREADS, OPS, WORDS, STORES, FENCES,
 ];
+
+/// The most operations that a drawn test may have, in all its threads.
+pub(crate) const MAX_OPS: u32 = 2048;
+
+/// The most operations of a hundred that may be stores or fences.
+pub(crate) const MAX_SHARES: u32 = 100;

@@ -9,8 +9,8 @@ ghost use Rattle.command_line.specs.Settings.{HasSettings, HasNoSettings, IsWith
 use crate::matches::matches;
 use crate::meaning::{Command, Settings, WordsFault};
 use crate::options::{
-    CHUNK, COMMAND, FAULT, FENCES, MODEL, NumberRow, OPS, RUNNERS, RUNS, SEED, STORES, TARGET,
-    THREADS, WORDS, WORKERS,
+    CHUNK, COMMAND, FAULT, FENCES, MAX_OPS, MAX_SHARES, MODEL, NumberRow, OPS, RUNNERS, RUNS, SEED,
+    STORES, TARGET, THREADS, WORDS, WORKERS,
 };
 use crate::texts::{read_command, read_fault, read_model, read_number, read_target};
 use clap::ArgMatches;
@@ -107,15 +107,15 @@ fn read_all(matches: &ArgMatches) -> Option<Settings>
     })
 }
 
-/// Whether the machine can carry the fault, and no test that is drawn is too large.
+/// Whether the machine can carry the fault, no drawn test is too large, and no more than all operations are stores and fences.
 fn are_consistent(settings: &Settings) -> bool
     requires { IsWithinRanges settings.now }
     ensures { IsTrue result ↔ AreConsistent settings.now }
 {
     let drawn = &settings.gen_settings;
     fits(settings.target, settings.fault)
-        && drawn.threads * drawn.ops <= 2048
-        && drawn.stores + drawn.fences <= 100
+        && drawn.threads * drawn.ops <= MAX_OPS
+        && drawn.stores + drawn.fences <= MAX_SHARES
 }
 
 /// The settings of the words behind the program's name. Want of memory may be answered in place of any other answer.

@@ -13,6 +13,16 @@ fn settings_are_compared_whole(rt: HostRuntime) {
     };
     let copied = settings;
     assert_eq!(rt; copied, settings);
-    assert!(rt; GenSettings { seed: 0, ..settings } != settings);
-    assert!(rt; GenSettings { fences: 1, ..settings } != settings);
+    assert!(rt;
+        GenSettings {
+            seed: 0,
+            ..settings
+        } != settings
+    );
+    assert!(rt;
+        GenSettings {
+            fences: 1,
+            ..settings
+        } != settings
+    );
 }
