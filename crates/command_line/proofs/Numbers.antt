@@ -1,11 +1,11 @@
 -- A numeral that is no larger than a number of 64 bits is parsed as its number.
 use Rattle.std.proofs.Common.{◌≡◌, ℕ, ◌^◌, ◌<◌, ◌≤◌, ◌&&◌, Bool, true, false, cond, leb, inl, inr, List, [], ◌∷◌, refl, arith, rules, length, Option, Some, None, Result, Ok, Err, ap, sym, ◌∙◌, ⊎_elim, subst}
-use Rattle.std.specs.Prelude.{option_map, option_and_then, MatchResult}
+use Rattle.std.specs.Prelude.{is_some, option_and_then, MatchResult}
 use Rattle.std.specs.Result.{OkIff}
 use Rattle.std.proofs.lemmas.Bool.{lt-leb, cases_lt}
 use Rattle.std.specs.Str.Parse.{ParsesUnsigned}
 use Rattle.std.proofs.lemmas.Str.Parse.{IsNumeralModel, numerals_by_fold, parse_digits}
-use Rattle.test_lang.specs.Text.Numeral.{AreDigits, IsNumeral, IsNumeralOf, value_after, whole_numeral, held}
+use Rattle.test_lang.specs.Text.Numeral.{AreDigits, IsNumeral, IsNumeralOf, value_after, whole_numeral}
 use Rattle.test_lang.proofs.TextLemmas.Numerals.{whole_numeral-spelled}
 use Rattle.command_line.specs.Options.{between, number_between}
 
@@ -41,11 +41,11 @@ module _ {E : Type 0} (text : List ℕ) where
       go (Err e) is = λ small. is ((digits_of_numeral text h.numeral).1, omega (arith, h.number))
 
   -- what is read of a text that is a numeral, by what a parse gives
-  pub parsed_between : (least most held_number : ℕ) (r : Result ℕ E) → most < 2 ^ 64 → Some held_number ≡ option_map held (whole_numeral text)
+  pub parsed_between : (least most : ℕ) (r : Result ℕ E) → most < 2 ^ 64 → is_some (whole_numeral text) ≡ true
       → ParsesUnsigned 64 10 text r
       → MatchResult r (λ m. between least most m ≡ number_between least most text) (λ _. None ≡ number_between least most text)
   unfolding ParsesNumber
-  parsed_between least most held_number r fits is p = go (whole_numeral text) refl is
+  parsed_between least most r fits is p = go (whole_numeral text) refl is
     where
       ok_or_past : (n : ℕ) → whole_numeral text ≡ Some n → (r : Result ℕ E) → ParsesNumber n r
           → MatchResult r (λ m. between least most m ≡ number_between least most text) (λ _. None ≡ number_between least most text)
@@ -55,7 +55,7 @@ module _ {E : Type 0} (text : List ℕ) where
           beyond : (n : ℕ) → (n < 2 ^ 64 → ⊥) → most < n
           beyond n large = elim (cases_lt most n) [ inl h ↦ h | inr h ↦ absurd (large (omega arith)) ]
 
-      go : (o : Option ℕ) → whole_numeral text ≡ o → Some held_number ≡ option_map held o
+      go : (o : Option ℕ) → whole_numeral text ≡ o → is_some o ≡ true
           → MatchResult r (λ m. between least most m ≡ number_between least most text) (λ _. None ≡ number_between least most text)
       go None e bad = absurd cc
       go (Some n) e some = ok_or_past n e r (parsed n r (whole_numeral-spelled text n e) p)

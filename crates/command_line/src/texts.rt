@@ -1,5 +1,6 @@
 //! What the text of a word stands for.
-ghost use Rattle.std.specs.Prelude.{◌≡◌, ◌≤◌, IfSome};
+ghost use Rattle.std.specs.Prelude.{◌≡◌, ◌≤◌, IfSome, is_some};
+ghost use Rattle.test_lang.specs.Text.Numeral.{whole_numeral};
 ghost use Rattle.command_line.specs.Options.{between, command_of, fault_of, model_of, number_between, plain_fault_of, target_of};
 
 use crate::meaning::Command;
@@ -83,12 +84,21 @@ fn within(number: u64, least: u64, most: u64) -> Option<u64>
     }
 }
 
+/// Whether a text is a numeral: digits, of which the first is no zero unless it stands alone.
+fn is_numeral(text: &str) -> bool
+    ensures { result ≡ is_some (whole_numeral text.now) }
+{
+    whole_numeral(text.as_bytes()).is_some()
+}
+
 /// The number of a numeral, from `least` to `most`. A numeral has no sign and no leading zero.
 pub(crate) fn read_number(text: &str, least: u64, most: u64) -> Option<u64>
     ensures exact { result ≡ number_between least most text.now }
     ensures within { IfSome result (λ n. (least ≤ n) × (n ≤ most)) }
 {
-    whole_numeral(text.as_bytes())?;
+    if !is_numeral(text) {
+        return None;
+    }
     match text.parse::<u64>() {
         Ok(number) => within(number, least, most),
         Err(_) => None,
