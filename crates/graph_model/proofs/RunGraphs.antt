@@ -1,19 +1,18 @@
 -- A graph to which the edges of one load after another are added.
-use Rattle.std.proofs.Common.{◌≡◌, ℕ, ◌+◌, ◌*◌, ◌^◌, ◌<◌, ◌≤◌, List, [], ◌∷◌, ◌++◌, true, length, get_or, take, All, Contains, arith, refl, sym, ap, subst, ◌∙◌, length-append, append-nil, append_assoc}
+use Rattle.std.proofs.Common.{◌≡◌, ℕ, ◌+◌, ◌*◌, ◌^◌, ◌<◌, ◌≤◌, List, [], ◌∷◌, ◌++◌, true, length, get_or, take, All, Contains, arith, sym, ap, subst, ◌∙◌, length-append, append-nil, append_assoc}
 use Rattle.std.specs.List.{flat_map}
 use Rattle.std.proofs.lemmas.Grind.{flat_map-append}
 use Rattle.std.proofs.lemmas.List.{get_or_default, take_more, take_all}
 use Rattle.orders.proofs.Members.{Contains-filter_back}
 use Rattle.test_lang.specs.Program.{Program, all_nodes, op_count}
 use Rattle.test_lang.specs.Values.{is_load_at, load_count, load_nodes}
-use Rattle.test_lang.specs.Runs.{IsInside}
 use Rattle.test_lang.specs.declared.op.MemModel.{MemModel}
 use Rattle.test_lang.proofs.EdgeTests.{edge-nodes}
 use Rattle.test_lang.proofs.Ranks.{length-load_nodes}
 use Rattle.digraph.specs.Digraph.{Digraph}
 use Rattle.graph_model.specs.FewKept.{with_edges}
 use Rattle.graph_model.specs.LoadEdges.{edges_of_load}
-use Rattle.graph_model.specs.StaticGraph.{StaticGraph, IsStaticGraph, few_run_edges}
+use Rattle.graph_model.specs.StaticGraph.{StaticGraph, few_run_edges}
 use Rattle.graph_model.proofs.LoadEdges.{load_among}
 
 element : {X : Type 0} (xs : List X) (k : ℕ) (d : X) → k < length xs → Contains xs (get_or xs k d)

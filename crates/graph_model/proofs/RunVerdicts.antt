@@ -1,5 +1,5 @@
 -- What is found of a run's few edges is so of all its edges.
-use Rattle.std.proofs.Common.{◌≡◌, ℕ, List, ◌∷◌, Bool, true, Contains, arith, sym, ap, subst, inl, inr, ◌∙◌}
+use Rattle.std.proofs.Common.{◌≡◌, ℕ, List, Bool, true, arith, sym, ap, subst, inl, inr, ◌∙◌}
 use Rattle.std.specs.Cmp.{IsEquivalence}
 use Rattle.std.specs.List.{list_any}
 use Rattle.std.specs.Ordering.{eq_of_both, on}
@@ -7,7 +7,7 @@ use Rattle.std.specs.Prelude.{nat_eq}
 use Rattle.std.proofs.lemmas.Bool.Decides.{nat_tests}
 use Rattle.std.proofs.lemmas.Cmp.{and_equiv, on_equiv, nat_eq_equiv}
 use Rattle.std.proofs.lemmas.Map.Views.{Contains-from_any, list_any-from_Contains}
-use Rattle.orders.specs.Cycles.{IsFirstShortestCycle, IsLeastOnCycle, IsOnCycle}
+use Rattle.orders.specs.Cycles.{IsLeastOnCycle, IsOnCycle}
 use Rattle.orders.specs.Orders.{HasNoOrder, nodes_below}
 use Rattle.orders.proofs.Below.{once-below}
 use Rattle.orders.proofs.CyclesOfPaths.{cycle_of_reach, reach_of_cycle}

@@ -1,4 +1,4 @@
-use Rattle.std.proofs.Common.{◌≤◌, ◌*◌, ℕ, length, subst}
+use Rattle.std.proofs.Common.{◌≤◌, ◌*◌, length, subst}
 use Rattle.test_lang.specs.Program.{op_count}
 use Rattle.graph_model.specs.StaticGraph.{StaticGraph}
 use Rattle.graph_model.proofs.RunGraphs.{graph_fits}
