@@ -19,24 +19,21 @@ places-more test xs m (suc d) h =
     (more.0 ++ added, ap (places test xs) next ∙ places-suc test xs (m + d) x here ∙ ap (λ list. list ++ added) more.1 ∙ append_assoc (places test xs m) more.0 added)
 
 module _ (xs : List (ℕ × Op)) (word other : ℕ × Op → Bool) where
-  -- the tests agree from place m on
-  AgreeFrom : ℕ → Type 0
-  AgreeFrom m = (k : ℕ) (x : ℕ × Op) → m ≤ k → slice_get xs k ≡ Some x → other x ≡ word x
-
-  agree-more : (m d : ℕ) → m + d ≤ length xs → ((k : ℕ) (x : ℕ × Op) → m ≤ k → slice_get xs k ≡ Some x → other x ≡ word x)
+  -- where the tests agree from a place on, equal places are added
+  pub agree-more : (m d : ℕ) → m + d ≤ length xs → ((k : ℕ) (x : ℕ × Op) → m ≤ k → k < m + d → slice_get xs k ≡ Some x → other x ≡ word x)
       → (rest : List ℕ) × (places word xs (m + d) ≡ places word xs m ++ rest) × (places other xs (m + d) ≡ places other xs m ++ rest)
   agree-more m zero h agree =
       let same : m + 0 ≡ m = omega arith in
       ([], ap (places word xs) same ∙ sym (append-nil (places word xs m)), ap (places other xs) same ∙ sym (append-nil (places other xs m)))
   agree-more m (suc d) h agree =
-      let more = agree-more m d (omega (arith, h)) agree in
+      let more = agree-more m d (omega (arith, h)) (λ k y from to e. agree k y from (omega (arith, to)) e) in
       let x = get_or xs (m + d) (0, Fence) in
       let here : slice_get xs (m + d) ≡ Some x = slice_get-get_or xs (m + d) (0, Fence) (omega (arith, h)) in
       let next : m + suc d ≡ suc (m + d) = omega arith in
       let added = cond (word x) ((m + d) ∷ []) [] in (
         more.0 ++ added,
         ap (places word xs) next ∙ places-suc word xs (m + d) x here ∙ ap (λ list. list ++ added) more.1 ∙ append_assoc (places word xs m) more.0 added,
-        ap (places other xs) next ∙ places-suc other xs (m + d) x here ∙ ap (λ b. places other xs (m + d) ++ cond b ((m + d) ∷ []) []) (agree (m + d) x (omega arith) here)
+        ap (places other xs) next ∙ places-suc other xs (m + d) x here ∙ ap (λ b. places other xs (m + d) ++ cond b ((m + d) ∷ []) []) (agree (m + d) x (omega arith) (omega arith) here)
             ∙ ap (λ list. list ++ added) more.2 ∙ append_assoc (places other xs m) more.0 added,
       )
 
@@ -50,7 +47,7 @@ module _ (xs : List (ℕ × Op)) (word other : ℕ × Op → Bool) where
       ∙ ap (λ list. list ++ cond (word x) (n ∷ []) []) (agree-below n (omega (arith, h)) (λ k y lt e. agree k y (omega (arith, lt)) e))
       ∙ sym (places-suc word xs n x here)
 
-  none-more : (m d : ℕ) → m + d ≤ length xs → ((k : ℕ) (x : ℕ × Op) → m ≤ k → k < m + d → slice_get xs k ≡ Some x → other x ≡ false) → places other xs (m + d) ≡ places other xs m
+  pub none-more : (m d : ℕ) → m + d ≤ length xs → ((k : ℕ) (x : ℕ × Op) → m ≤ k → k < m + d → slice_get xs k ≡ Some x → other x ≡ false) → places other xs (m + d) ≡ places other xs m
   none-more m zero h none = let same : m + 0 ≡ m = omega arith in ap (places other xs) same
   none-more m (suc d) h none =
       let x = get_or xs (m + d) (0, Fence) in
@@ -85,7 +82,7 @@ module _ (xs : List (ℕ × Op)) (word other : ℕ × Op → Bool) where
       let at_end = places word xs end in
       let all = places word xs (length xs) in
       let block = places-more word xs first (end - first) (omega (arith, order, within)) in
-      let tail = agree-more end (length xs - end) (omega (arith, within)) h.behind in
+      let tail = agree-more end (length xs - end) (omega (arith, within)) (λ k x from to e. h.behind k x from e) in
       let to_end : at_end ≡ at_first ++ block.0 = ap (places word xs) (sym gap) ∙ block.1 in
       let to_all : all ≡ at_end ++ tail.0 = ap (places word xs) (sym left) ∙ tail.1 in
       let others : places other xs (length xs) ≡ at_first ++ tail.0 =

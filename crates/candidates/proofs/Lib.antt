@@ -4,3 +4,4 @@ pub mod LoadCandidates
 pub mod OwnBlocks
 pub mod Lookups
 pub mod RunLemmas
+pub mod CandidateLaws

@@ -12,15 +12,11 @@ use Rattle.test_lang.specs.declared.op.Op.TheVariants.{Load, Store, Fence}
 use Rattle.test_lang.specs.Program.{Program, nodes, op_count, first_node, thread_length, passes, passes_after}
 use Rattle.test_lang.specs.Values.{is_store, is_of, same_word, same_thread, value_of}
 use Rattle.test_lang.specs.Runs.{last_or_0, own_earlier, writes_for, base, others, candidates}
+use Rattle.test_lang.proofs.CandidateKinds.{last_or_0-push}
 use Rattle.test_lang.proofs.Places.{places, places-suc}
 use Rattle.test_lang.proofs.Threads.{StandsIn, thread_at-stands, stands-thread_at, thread_end-le}
 use Rattle.candidates.specs.Stores.{is_store_to, stores_before, stores_to, last_own}
 use Rattle.candidates.proofs.Blocks.{LeavesOut, leaves_out}
-
-last_or_0-push : (xs : List ℕ) (x : ℕ) → last_or_0 (xs ++ x ∷ []) ≡ x
-last_or_0-push [] x = refl
-last_or_0-push (y ∷ []) x = refl
-last_or_0-push (y ∷ z ∷ zs) x = last_or_0-push (z ∷ zs) x
 
 -- filters of the numbers below n
 
@@ -64,7 +60,7 @@ module _ (t x : ℕ) where
   abbrev own_store : ℕ × Op → Bool
   own_store node = is_store_to x node.1 && (t == node.0)
 
-  abbrev other_store : ℕ × Op → Bool
+  abbrev pub other_store : ℕ × Op → Bool
   other_store node = is_store_to x node.1 && not (t == node.0)
 
   writes_test : (found : Option (ℕ × Op)) → (passes (λ node. is_store node.1) found && passes_after (λ first second. same_word first.1 second.1) (Some (t, Load x)) found) ≡ passes (λ node. is_store_to x node.1) found
@@ -103,7 +99,7 @@ module _ (p : Program) (load t x : ℕ) (e : slice_get (nodes p) load ≡ Some (
       ap (λ found. passes (λ node. is_store node.1) (slice_get (nodes p) n) && passes_after (λ first second. same_word first.1 second.1) found (slice_get (nodes p) n)) e
       ∙ writes_test t x (slice_get (nodes p) n)
 
-  others-are : others p load ≡ map (value_of p) (places (other_store t x) (nodes p) (op_count p))
+  pub others-are : others p load ≡ map (value_of p) (places (other_store t x) (nodes p) (op_count p))
   others-are =
       ap (map (value_of p)) (filter_same (λ n. writes_for p load n && not (same_thread p load n)) (λ n. passes (other_store t x) (slice_get (nodes p) n))
       (λ n.

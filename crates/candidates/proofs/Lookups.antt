@@ -5,7 +5,7 @@ use Rattle.std.specs.List.{position_or_len}
 use Rattle.std.specs.Option.{option_map, IsNone}
 use Rattle.std.proofs.lemmas.Bool.{and_parts, eqb-true, eq-eqb, ne_eqb, le-ltb, lt-ltb, not-true, le-leb, lt-leb, cond-true, cond-false, cases_eq, cases_lt}
 use Rattle.std.proofs.lemmas.List.Sums.{position_or_len_is, sum_by-cons}
-use Rattle.std.proofs.lemmas.List.{length-map, length-take}
+use Rattle.std.proofs.lemmas.List.{length-take}
 use Rattle.std.proofs.lemmas.Option.{get_or_from_slice_get, same_Some, slice_get-get_or, slice_get-map, slice_get_read, slice_get_within}
 use Rattle.orders.proofs.Members.{Contains-filter_back, Contains-map_back}
 use Rattle.test_lang.specs.declared.op.Op.{Op}
@@ -15,7 +15,7 @@ use Rattle.test_lang.specs.Values.{is_load, is_store, is_store_at, one_word, sam
 use Rattle.test_lang.specs.Runs.{own_earlier, writes_for, base, others, candidates}
 use Rattle.test_lang.proofs.CandidateKinds.{LastBelow, last_below}
 use Rattle.test_lang.proofs.CandidateKinds.LastBelow.{nothing, last}
-use Rattle.test_lang.proofs.Places.{length-places_all, passing, place_at, places, slice_get_left}
+use Rattle.test_lang.proofs.Places.{passing, place_at, places, slice_get_left}
 use Rattle.test_lang.proofs.Ranks.{one_store, value_of-le}
 use Rattle.candidates.specs.declared.load_rows.LoadRow.{LoadRow}
 use Rattle.candidates.specs.Stores.{is_store_to, stores_to}
@@ -61,7 +61,7 @@ store_at p x i value e = of (slice_get stores i) refl (sym (slice_get-map (value
       let at = place_at (λ found. is_store_to x found.1) (nodes p) (op_count p) i n (omega arith) is in
       record { node = n; to_word = at.passed; before = at.place_is; value_is = same_Some (value_of p n) value e }
 
-store_to_is_store : (x : ℕ) (op : Op) → is_store_to x op ≡ true → is_store op ≡ true
+pub store_to_is_store : (x : ℕ) (op : Op) → is_store_to x op ≡ true → is_store op ≡ true
 store_to_is_store x (Load word) h = absurd cc
 store_to_is_store x (Store word) h = refl
 store_to_is_store x Fence h = absurd cc
@@ -154,7 +154,7 @@ base_or_other p load w store far e (last own lt earlier is none) =
     let near : same_thread p load w ≡ true = ap (same_thread p load) same ∙ mine.1 in
     absurd cc
 
-base_is_no_other : (p : Program) (load j : ℕ) → slice_get (others p load) j ≡ Some (base p load) → ⊥
+pub base_is_no_other : (p : Program) (load j : ℕ) → slice_get (others p load) j ≡ Some (base p load) → ⊥
 base_is_no_other p load j e =
     let found : Contains (others p load) (base p load) = (j, slice_get_within (others p load) j (base p load) e, get_or_from_slice_get (others p load) j (base p load) (base p load) e) in
     let other = Contains-map_back (value_of p) (filter (λ n. writes_for p load n && not (same_thread p load n)) (all_nodes p)) (base p load) found in
@@ -353,7 +353,7 @@ finds_by_rows p load row value store t v = ⊎_elim
           (cases_lt 0 value))
 
 -- the base is 0 or the value of a store
-base_le : (p : Program) (load : ℕ) → LastBelow (own_earlier p load) (value_of p) (op_count p) (base p load) → base p load ≤ store_count p
+pub base_le : (p : Program) (load : ℕ) → LastBelow (own_earlier p load) (value_of p) (op_count p) (base p load) → base p load ≤ store_count p
 base_le p load (nothing initial none) = omega (arith, initial)
 base_le p load (last own lt earlier is none) = let few = value_of-le p own (is_own_store p load own earlier).0 in omega (arith, few, is)
 
@@ -387,7 +387,7 @@ module _ (p : Program) (loads : List LoadRow) (stores : List StoreRow) (lists : 
   -- places are small
   pub short_place : (value : ℕ) (store : StoreRow) → slice_get stores value ≡ Some store → store.place ≤ 2048
   short_place value store e =
-      let operations = t.operations in
+      let operations = t.limits.operations in
       ⊎_elim
       (λ (some : 0 < value).
       let stands = slice_get_within (stores_to p store.word) store.place value (t.stores_listed.rows_place value store some e).stands in
@@ -426,7 +426,7 @@ one_at_most true c h = let none = ap (λ d. cond {A = ℕ} d 1 0) (h refl) in om
 one_at_most false true h = omega arith
 one_at_most false false h = omega arith
 
-count_by_disjoint : {X : Type 0} (f g : X → Bool) → ((x : X) → f x ≡ true → g x ≡ false) → (xs : List X) → count_by f xs + count_by g xs ≤ length xs
+pub count_by_disjoint : {X : Type 0} (f g : X → Bool) → ((x : X) → f x ≡ true → g x ≡ false) → (xs : List X) → count_by f xs + count_by g xs ≤ length xs
 count_by_disjoint f g never [] = omega arith
 count_by_disjoint f g never (x ∷ xs) =
     let first = sum_by-cons (λ y. cond {A = ℕ} (f y) 1 0) x xs in
@@ -435,21 +435,7 @@ count_by_disjoint f g never (x ∷ xs) =
     let rest = count_by_disjoint f g never xs in
     omega (arith, first, second, one, rest)
 
-store_no_load : (x : ℕ) (op : Op) → is_store_to x op ≡ true → is_load op ≡ false
+pub store_no_load : (x : ℕ) (op : Op) → is_store_to x op ≡ true → is_load op ≡ false
 store_no_load x (Load word) h = absurd cc
 store_no_load x (Store word) h = refl
 store_no_load x Fence h = refl
-
-stores_and_loads : (p : Program) (x : ℕ) → length (stores_to p x) + load_count p ≤ op_count p
-stores_and_loads p x =
-    let stores = length-map (places (λ node. is_store_to x node.1) (nodes p) (op_count p)) (value_of p) in
-    let all = length-places_all (λ node. is_store_to x node.1) (nodes p) in
-    let both = count_by_disjoint (λ (node : ℕ × Op). is_store_to x node.1) (λ node. is_load node.1) (λ node. store_no_load x node.1) (nodes p) in
-    omega (arith, stores, all, both)
-
-pub count_le : (p : Program) (load : ℕ) (row : LoadRow) → 0 < load_count p → TellsCandidates p load row → length (candidates p load) ≤ op_count p
-count_le p load row some t =
-    let block = t.block in
-    let count = count_parts p load row t in
-    let all = stores_and_loads p row.word in
-    omega (arith, block, count, all, some)

@@ -1,14 +1,14 @@
 -- The first load of a run whose value is no candidate's.
-use Rattle.std.proofs.Common.{◌≡◌, ◌∙◌, ◌↔◌, ℕ, ◌+◌, ◌<◌, ◌≤◌, List, Bool, true, false, not, ◌&&◌, get_or, Contains, Option, None, Some, refl, ap, arith, sym, subst, ⊎_elim}
+use Rattle.std.proofs.Common.{length, ◌≡◌, ◌∙◌, ◌↔◌, ℕ, ◌+◌, ◌<◌, ◌≤◌, List, Bool, true, false, not, ◌&&◌, get_or, Contains, Option, None, Some, refl, ap, arith, sym, subst, ⊎_elim}
 use Rattle.std.specs.Prelude.{◌==◌, if◌then◌else◌, IsTrue, slice_get, slice_index}
 use Rattle.std.specs.List.{list_any, position_or_len}
 use Rattle.std.specs.Option.{is_some}
 use Rattle.std.specs.Bool.{Decides}
-use Rattle.std.proofs.lemmas.Bool.{and_parts, cases_eq, false_from_ne_true, not_from_false, not_from_true}
+use Rattle.std.proofs.lemmas.Bool.{and_parts, cases_eq, cases_lt, false_from_ne_true, not-false, not_from_false, not_from_true}
 use Rattle.std.proofs.lemmas.Bool.Decides.{Decides-eqb, Decides-by_or}
 use Rattle.std.proofs.lemmas.List.Elements.{Decides-contains}
 use Rattle.std.proofs.lemmas.List.Folds.{find_at}
-use Rattle.std.proofs.lemmas.List.Sums.{position_or_len_is}
+use Rattle.std.proofs.lemmas.List.Sums.{fails_before_first, position_or_len_is}
 use Rattle.std.proofs.lemmas.Option.{slice_get-get_or, slice_get_past}
 use Rattle.test_lang.specs.Program.{Program}
 use Rattle.test_lang.specs.Values.{load_count, load_nodes}
@@ -63,7 +63,7 @@ reads_tells p run load =
 
 module _ (p : Program) (run : List ℕ) where
   -- the value of the load of a rank
-  value_read-at : (rank : ℕ) → rank < load_count p → value_read p run (load_at p rank) ≡ slice_index run rank
+  pub value_read-at : (rank : ℕ) → rank < load_count p → value_read p run (load_at p rank) ≡ slice_index run rank
   value_read-at rank lt =
       let long = length-load_nodes p in
       ap (slice_index run) (load_nodes-rank p rank (load_at p rank) (slice_get-get_or (load_nodes p) rank 0 (omega (arith, long, lt))))
@@ -89,6 +89,20 @@ module _ (p : Program) (run : List ℕ) where
       let here : fails (load_at p rank) ≡ true = not_from_false (reads_candidate p run (load_at p rank)) (false_from_ne_true (reads_candidate p run (load_at p rank)) (λ h. lacks ((reads_at rank lt).0 h))) in
       let at = position_or_len_is fails (load_nodes p) rank 0 (omega (arith, long, lt)) (none_before rank (omega (arith, lt)) gives) (λ within. here) in
       sym (find_at fails (load_nodes p) ∙ ap (slice_get (load_nodes p)) at ∙ slice_get-get_or (load_nodes p) rank 0 (omega (arith, long, lt)))
+
+  -- a run without a load outside
+  pub inside_gives : first_outside p run ≡ None → GivesCandidates p run (load_count p)
+  inside_gives none = record {
+    each = λ rank lt.
+        let long = length-load_nodes p in
+        let found = find_at fails (load_nodes p) in
+        ⊎_elim
+        (λ (within : position_or_len fails (load_nodes p) < length (load_nodes p)).
+        let some = slice_get-get_or (load_nodes p) (position_or_len fails (load_nodes p)) 0 within in absurd (cc (none, found, some)))
+        (λ (past : length (load_nodes p) ≤ position_or_len fails (load_nodes p)).
+        (reads_at rank lt).0 (not-false (reads_candidate p run (load_at p rank)) (fails_before_first fails (load_nodes p) rank 0 (omega (arith, past, long, lt)))))
+        (cases_lt (position_or_len fails (load_nodes p)) (length (load_nodes p)));
+  }
 
   pub one_more_gives : (rank : ℕ) → GivesCandidates p run rank → Contains (candidates_at p rank) (slice_index run rank) → GivesCandidates p run (rank + 1)
   one_more_gives rank gives here = record {

@@ -3,7 +3,7 @@ use Rattle.std.specs.Prelude.{◌≡◌, ℕ, ◌+◌, ◌<◌, ◌≤◌, List,
 use Rattle.candidates.specs.declared.store_lists.StoreRow.{StoreRow}
 use Rattle.candidates.specs.declared.load_rows.LoadRow.{LoadRow}
 use Rattle.candidates.specs.declared.load_rows.OwnStores.{OwnStores}
-use Rattle.test_lang.specs.Program.{Program, nodes, op_count, first_node}
+use Rattle.test_lang.specs.Program.{Program, nodes, op_count, first_node, IsWithinLimits}
 use Rattle.test_lang.specs.Values.{is_load, load_count, store_count}
 use Rattle.test_lang.specs.Runs.{base, others, candidates}
 use Rattle.candidates.specs.ByRank.{load_at}
@@ -50,7 +50,7 @@ pub record TellsLoads (p : Program) (n : ℕ) (rows : List LoadRow) : Type 0 whe
 
 -- The tables tell the candidates of each load.
 pub record Tabulates (p : Program) (loads : List LoadRow) (stores : List StoreRow) (lists : List (List ℕ)) : Type 0 where
-  pub operations : op_count p ≤ 2048
+  pub limits : IsWithinLimits p
   pub one_row_each : length stores ≡ store_count p + 1
   pub stores_listed : ListsStores p (op_count p) stores lists
   pub one_load_each : length loads ≡ load_count p

@@ -2,6 +2,7 @@
 ghost use Rattle.std.specs.Prelude.{◌≡◌, ◌<◌, ◌≤◌, ◌↔◌, ◌==◌, ℕ, length, position, Contains, IfOk, IfSome, IsNone, IsTrue, Some, slice_get};
 ghost use Rattle.std.specs.Option.{option_map};
 ghost use Rattle.candidates.specs.ByRank.{GivesCandidates, candidates_at, load_at};
+ghost use Rattle.test_lang.specs.Program.{IsWithinLimits};
 ghost use Rattle.test_lang.specs.Runs.{first_outside};
 ghost use Rattle.test_lang.specs.Values.{load_count};
 
@@ -47,7 +48,8 @@ impl Candidates {
 
     /// The test.
     pub fn test(&self) -> &Test
-        ensures { result.now ≡ self.now }
+        ensures test { result.now ≡ self.now }
+        ensures limits { IsWithinLimits self.now }
     {
         &self.test
     }

@@ -171,8 +171,7 @@ pub(crate) fn list_loads(
     stores: &StoreLists,
 ) -> Result<Vec<LoadRow>, AllocError>
     requires { ListsStores test.now (op_count test.now) stores.now.rows.items (map (λ list. list.items) stores.now.lists.items) }
-    ensures told { IfOk result (λ rows. TellsLoads test.now (op_count test.now) rows.items) }
-    ensures few { op_count test.now ≤ 2048 }
+    ensures { IfOk result (λ rows. TellsLoads test.now (op_count test.now) rows.items) }
 {
     let none = OwnStores {
         from: 0,

@@ -1,7 +1,7 @@
 //! The stores to each word, and the place of each store among them.
 ghost use Rattle.std.specs.Prelude.{◌≡◌, ◌+◌, ◌^◌, ◌<◌, [], ◌∷◌, ◌++◌, IfOk, OnOk, length, map, slice_get, slice_index_or, slice_set, All};
 ghost use Rattle.candidates.specs.Tables.{ListsStores};
-ghost use Rattle.test_lang.specs.Program.{op_count};
+ghost use Rattle.test_lang.specs.Program.{IsWithinLimits, op_count};
 ghost use Rattle.test_lang.specs.Values.{store_count};
 
 use std::alloc::{AllocError, Global};
@@ -71,6 +71,7 @@ impl StoreLists {
 pub(crate) fn list_stores(alloc: Global, test: &Test) -> Result<StoreLists, AllocError>
     ensures listed { IfOk result (λ stores. ListsStores test.now (op_count test.now) stores.rows.items (map (λ list. list.items) stores.lists.items)) }
     ensures count { IfOk result (λ stores. length stores.rows.items ≡ store_count test.now + 1) }
+    ensures limits { IsWithinLimits test.now }
 {
     let mut stores = StoreLists::new(alloc, test.words())?;
     for node in 0..test.ops() {

@@ -1,2 +1,5 @@
+pub mod Each
 pub mod Growing
 pub mod OneTally
+pub mod PlacedRows
+pub mod Putting

@@ -1,5 +1,5 @@
 -- A list has one tally.
-use Rattle.std.proofs.Common.{◌≡◌, ◌∙◌, ℕ, ◌≤◌, List, [], ◌∷◌, Bool, true, false, cond, refl, sym, ap, arith, All, ⊎_elim}
+use Rattle.std.proofs.Common.{◌≡◌, ◌∙◌, ℕ, ◌≤◌, List, [], ◌∷◌, Bool, refl, sym, ap, arith, All, ⊎_elim}
 use Rattle.std.specs.Prelude.{Option, Some, None, unwrap_or}
 use Rattle.std.specs.BTreeMap.{is_at}
 use Rattle.std.specs.List.Sorted.{IsStrictlySortedBy}
@@ -7,7 +7,6 @@ use Rattle.std.specs.Map.{keys_of, values_of, lookup}
 use Rattle.std.specs.Ordering.{is_eq, eq_by_cmp, ordering_reverse}
 use Rattle.std.specs.declared.cmp.Ordering.{Ordering}
 use Rattle.std.specs.declared.cmp.Ordering.TheVariants.{Less, Equal, Greater}
-use Rattle.std.proofs.lemmas.List.Elements.{All-head, All-tail}
 use Rattle.std.proofs.lemmas.Bool.{cases_Bool}
 use Rattle.std.proofs.lemmas.Cmp.{tied_itself, eq_by_cmp_equiv}
 use Rattle.std.proofs.lemmas.Map.{lookup-none}
@@ -18,25 +17,11 @@ use Rattle.tally.specs.declared.outcome.Outcome.{Outcome}
 use Rattle.tally.specs.Outcomes.{outcome_cmp}
 use Rattle.tally.specs.OutcomeLaws.{outcome_cmp_total, outcome_eq_decides, outcome_ties}
 use Rattle.tally.specs.Tallies.{IsCounts, IsTally, count_of}
-use Rattle.tally.proofs.Growing.{count_at}
+use Rattle.tally.proofs.Growing.{AtLeastOne, count_at, found_counts}
 
 -- outcomes that tie are the same
 outcome_cmp_exact : CmpEqualImpliesEq outcome_cmp
 outcome_cmp_exact x y e = (outcome_eq_decides x y).0 (outcome_ties x y ∙ ap is_eq e)
-
--- if a count was found, it is at least 1
-abbrev AtLeastOne : Option ℕ → Type 0
-AtLeastOne None = Unit {0}
-AtLeastOne (Some n) = 1 ≤ n
-
-chosen : (b : Bool) (n : ℕ) (found : Option ℕ) → 1 ≤ n → AtLeastOne found → AtLeastOne (cond b (Some n) found)
-chosen true n found here rest = here
-chosen false n found here rest = rest
-
-found_counts : (test : Outcome → Bool) (pairs : List (Outcome × ℕ)) → All (λ count. 1 ≤ count) (values_of pairs) → AtLeastOne (lookup test pairs)
-found_counts test [] h = tt
-found_counts test (p ∷ pairs) h =
-    chosen (test p.0) p.1 (lookup test pairs) (All-head (λ count. 1 ≤ count) p.1 (values_of pairs) h) (found_counts test pairs (All-tail (λ count. 1 ≤ count) p.1 (values_of pairs) h))
 
 told_by : (o o' : Option ℕ) → AtLeastOne o → AtLeastOne o' → unwrap_or o 0 ≡ unwrap_or o' 0 → o ≡ o'
 told_by None None h k e = refl

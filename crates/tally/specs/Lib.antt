@@ -1,3 +1,5 @@
 pub mod Outcomes
 pub mod OutcomeLaws
 pub mod Tallies
+pub mod Counting
+pub mod Rows

@@ -1,5 +1,5 @@
 -- Tallies: how often each outcome occurs in a list.
-use Rattle.std.specs.Prelude.{◌≡◌, ℕ, ◌+◌, ◌≤◌, List, All, count_by, sum, unwrap_or}
+use Rattle.std.specs.Prelude.{◌≡◌, ℕ, ◌+◌, ◌≤◌, List, [], ◌∷◌, All, count_by, sum, unwrap_or}
 use Rattle.std.specs.BTreeMap.{insert_entry}
 use Rattle.std.specs.List.Sorted.{IsStrictlySortedBy}
 use Rattle.std.specs.Map.{keys_of, values_of, lookup}
@@ -28,6 +28,15 @@ pub record IsTally (outcomes : List Outcome) (pairs : List (Outcome × ℕ)) : T
   pub counts : IsCounts pairs
   pub counted : (outcome : Outcome) → count_of pairs outcome ≡ occurrences outcomes outcome
 
+-- the count of the outcome is so much greater, and all else stays; an outcome that isn't there goes to its place in the order with that count
+abbrev pub with_more : List (Outcome × ℕ) → Outcome → ℕ → List (Outcome × ℕ)
+with_more pairs outcome times = insert_entry outcome_cmp pairs outcome (count_of pairs outcome + times)
+
 -- the count of the outcome is one greater, and all else stays; an outcome that isn't there goes to its place in the order with the count 1
 abbrev pub with_one_more : List (Outcome × ℕ) → Outcome → List (Outcome × ℕ)
-with_one_more pairs outcome = insert_entry outcome_cmp pairs outcome (count_of pairs outcome + 1)
+with_one_more pairs outcome = with_more pairs outcome 1
+
+-- the outcomes of the list are counted, each once more for each of its places
+abbrev pub with_each : List (Outcome × ℕ) → List Outcome → List (Outcome × ℕ)
+with_each pairs [] = pairs
+with_each pairs (outcome ∷ outcomes) = with_each (with_one_more pairs outcome) outcomes

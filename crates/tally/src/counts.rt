@@ -1,9 +1,8 @@
 //! How often each outcome occurred.
-ghost use Rattle.std.specs.Prelude.{◌≡◌, ℕ, ◌+◌, ◌-◌, ◌^◌, ◌<◌, List, [], ◌∷◌, ◌++◌, length, OnOk, IfErr, Some};
-ghost use Rattle.std.specs.BTreeMap.{Updates, IsOrdered};
+ghost use Rattle.std.specs.Prelude.{◌≡◌, ℕ, ◌+◌, ◌-◌, ◌^◌, ◌<◌, ◌≤◌, List, [], ◌∷◌, ◌++◌, length, OnOk, IfErr};
+ghost use Rattle.std.specs.Bool.{OnTrue, OnFalse};
 ghost use Rattle.tally.specs.declared.outcome.Outcome.{Outcome};
-ghost use Rattle.tally.specs.Outcomes.{outcome_cmp};
-ghost use Rattle.tally.specs.Tallies.{IsCounts, IsTally, count_of, total_of, with_one_more};
+ghost use Rattle.tally.specs.Tallies.{IsCounts, IsTally, total_of, with_more, with_one_more};
 
 use crate::outcome::Outcome;
 use std::alloc::Global;
@@ -54,9 +53,40 @@ impl Tally {
         ensures refused { IfErr result (λ back. (back ≡ outcome) × (self.new ≡ self.old)) }
         ensures sound { IsCounts self.new }
     {
-        add_one(&mut self.counts, outcome)?;
+        add_times(&mut self.counts, outcome, 1)?;
         self.total += 1;
         Ok(())
+    }
+
+    /// Counts so many more places of the outcome at once.
+    /// `Err` means want of memory; it hands the outcome back, and the tally is as before.
+    pub(crate) fn add_times(&mut self, outcome: Outcome, times: u64) -> Result<(), Outcome>
+        requires room { total_of self.old + times < 2 ^ 64 }
+        requires some { 1 ≤ times }
+        ensures added { OnOk result (self.new ≡ with_more self.old outcome times) }
+        ensures refused { IfErr result (λ back. (back ≡ outcome) × (self.new ≡ self.old)) }
+        ensures sound { IsCounts self.old × IsCounts self.new }
+    {
+        add_times(&mut self.counts, outcome, times)?;
+        self.total += times;
+        Ok(())
+    }
+
+    /// Counts so many more places of the outcome if it is there, and says whether it is. It takes no memory.
+    pub(crate) fn raise(&mut self, outcome: &Outcome, times: u64) -> bool
+        requires { total_of self.old + times < 2 ^ 64 }
+        ensures raised { OnTrue result (self.new ≡ with_more self.old outcome.now times) }
+        ensures absent { OnFalse result (self.new ≡ self.old) }
+        ensures sound { IsCounts self.old × IsCounts self.new }
+    {
+        match self.counts.get_mut(outcome) {
+            Some(count) => {
+                *count += times;
+                self.total += times;
+                true
+            }
+            None => false,
+        }
     }
 
     /// The pairs of an outcome and its count, in the order of outcomes.
@@ -79,16 +109,18 @@ impl Tally {
     }
 }
 
-fn add_one(counts: &mut BTreeMap<Outcome, u64>, outcome: Outcome) -> Result<(), Outcome>
-    requires { total_of counts.old.entries < 2 ^ 64 - 1 }
-    ensures added { OnOk result (counts.new.entries ≡ with_one_more counts.old.entries outcome) }
-    ensures updated { OnOk result (Updates outcome_cmp counts.old counts.new outcome (Some (count_of counts.old.entries outcome + 1))) }
-    ensures ordered { OnOk result (IsOrdered outcome_cmp counts.new) }
+fn add_times(
+    counts: &mut BTreeMap<Outcome, u64>,
+    outcome: Outcome,
+    times: u64,
+) -> Result<(), Outcome>
+    requires { total_of counts.old.entries + times < 2 ^ 64 }
+    ensures added { OnOk result (counts.new.entries ≡ with_more counts.old.entries outcome times) }
     ensures refused { IfErr result (λ back. (back ≡ outcome) × (counts.new.entries ≡ counts.old.entries)) }
 {
     match counts.entry(outcome) {
         Ok(entry) => {
-            *entry.or_insert(0) += 1;
+            *entry.or_insert(0) += times;
             Ok(())
         }
         Err(refused) => Err(refused.value),

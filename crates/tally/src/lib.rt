@@ -1,11 +1,14 @@
 //! Outcomes of runs, their order, and how often each occurred.
 #![tactic(auto)]
 
+mod batch;
+mod counter;
 mod counts;
 pub mod laws;
 mod outcome;
 mod signature;
 
+pub use counter::Counter;
 pub use counts::{Tally, TallyIter};
 pub use outcome::Outcome;
 pub use signature::Signature;

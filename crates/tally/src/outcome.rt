@@ -1,6 +1,7 @@
 //! Outcomes of runs, and their order.
 
 use crate::signature::Signature;
+use std::alloc::{AllocError, Global};
 use std::cmp::Ordering;
 
 /// What a run came to. Outcomes are ordered: first those inside by their signatures, then those outside by node and then by value.
@@ -10,6 +11,22 @@ pub enum Outcome {
     Inside(Signature),
     /// This load, by its node, was the first one in node order that gave a value of no candidate.
     Outside { node: u32, value: u32 },
+}
+
+impl Outcome {
+    ghost use Rattle.std.specs.Prelude.{◌≡◌, OnOk};
+
+    /// Makes this the inside outcome of the signature with these words. It takes no memory where it has held a signature as long.
+    /// `Err` means want of memory.
+    pub(crate) fn set_inside(&mut self, alloc: Global, words: &[u64]) -> Result<(), AllocError>
+        ensures { OnOk result (self.new ≡ Outcome.Inside words.now) }
+    {
+        if let Outcome::Inside(signature) = self {
+            return signature.set(words);
+        }
+        *self = Outcome::Inside(Signature::of(alloc, words)?);
+        Ok(())
+    }
 }
 
 impl PartialEq for Outcome {

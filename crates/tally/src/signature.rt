@@ -1,5 +1,5 @@
 //! Signatures: lists of words of 64 bits.
-ghost use Rattle.std.specs.Prelude.{◌≡◌, IfOk, nat_eq};
+ghost use Rattle.std.specs.Prelude.{◌≡◌, IfOk, OnOk, nat_eq};
 ghost use Rattle.std.specs.Cmp.{partial_order_from_own_ties};
 ghost use Rattle.std.specs.Cmp.Lexicographic.{pointwise, slice_cmp};
 ghost use Rattle.std.specs.Cmp.Rules.{comparing};
@@ -33,6 +33,15 @@ impl Signature {
         Ok(Signature {
             words: Vec::from_slice(alloc, words)?,
         })
+    }
+
+    /// Makes this the signature whose list is `words`. It takes no memory where it has held as many words.
+    /// `Err` means want of memory.
+    pub(crate) fn set(&mut self, words: &[u64]) -> Result<(), AllocError>
+        ensures { OnOk result (self.new ≡ words.now) }
+    {
+        self.words.clear();
+        self.words.extend_from_slice(words)
     }
 
     /// The list of its words.

@@ -31,8 +31,8 @@ loop-thread-preserved c =
       loads = subst (λ n. TellsLoads p n c.push_loads.new.rows.items) end c.in_ok-push_loads.ensures.loads;
     }
 
-pub returns-clause-told : goal.returns-clause-told
-returns-clause-told c =
+pub returns : goal.returns
+returns c =
     let p = c.args.test.now in
     let past = c.loop-thread-test.false in
     let all = c.threads-thread-end.ensures.count in

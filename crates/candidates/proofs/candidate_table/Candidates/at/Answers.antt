@@ -8,7 +8,8 @@ use Rattle.candidates.specs.Reading.{list_place}
 use Rattle.candidates.specs.Stores.{stores_to}
 use Rattle.candidates.proofs.OwnBlocks.{list_items, list_length}
 use Rattle.candidates.proofs.StoreSteps.{stores_before-short}
-use Rattle.candidates.proofs.Lookups.{count_le, row_told, tables_of, at_base, list_place-within, at_list_place}
+use Rattle.candidates.proofs.CandidateLaws.{count_at-le}
+use Rattle.candidates.proofs.Lookups.{row_told, tables_of, at_base, list_place-within, at_list_place}
 use Rattle.candidates.proofs.candidate_table.Candidates.at.Goals as goal
 
 abbrev items : Vec ℕ Global → List ℕ
@@ -44,9 +45,8 @@ list_place-requires c =
     let told = row_told p i.loads.items i.stores.rows.items (map items i.stores.lists.items) tables c.args.rank row c.requires.rank c.index-load.ensures in
     let some = c.if-place-eq0.false in
     let place = c.requires.place in
-    let rank = c.requires.rank in
-    let count = count_le p (load_at p c.args.rank) row (omega (arith, rank)) told in
-    let operations = tables.operations in
+    let count = count_at-le p c.args.rank c.requires.rank in
+    let operations = tables.limits.operations in
     let within = told.within in
     let short = stores_before-short p row.word (op_count p) in
     record { some = omega (arith, some); room = omega (arith, place, count, operations, within, short) }

@@ -1,7 +1,8 @@
 use Rattle.std.proofs.Common.{map, subst, arith}
 use Rattle.candidates.specs.ByRank.{load_at}
 use Rattle.candidates.specs.Tables.{Tabulates, TellsCandidates}
-use Rattle.candidates.proofs.Lookups.{row_told, count_le}
+use Rattle.candidates.proofs.CandidateLaws.{count_at-le}
+use Rattle.candidates.proofs.Lookups.{row_told}
 use Rattle.candidates.proofs.candidate_table.Candidates.count.Goals as goal
 
 tables : (c : goal.After-index) → Tabulates c.args.self.now c.self.inside.loads.items c.self.inside.stores.rows.items (map (λ list. list.items) c.self.inside.stores.lists.items)
@@ -19,7 +20,6 @@ returns-clause-some c = let count = (told c).count_is in omega (arith, count)
 pub returns-clause-few : goal.returns-clause-few
 returns-clause-few c =
     let count = (told c).count_is in
-    let rank = c.requires in
-    let fewer = count_le c.args.self.now (load_at c.args.self.now c.args.rank) c.index.result.now (omega (arith, rank)) (told c) in
-    let operations = (tables c).operations in
+    let fewer = count_at-le c.args.self.now c.args.rank c.requires in
+    let operations = (tables c).limits.operations in
     omega (arith, count, fewer, operations)

@@ -10,9 +10,9 @@ invariant_of-result c =
     let stores = c.in_ok-stores.stores in
     let loads = c.in_ok-loads.loads.items in
     subst (λ q. Tabulates q loads stores.rows.items (map (λ list. list.items) stores.lists.items)) (sym c.in_ok-clone.ensures.cases) (record {
-      operations = c.list_loads.ensures.few;
+      limits = c.list_stores.ensures.limits;
       one_row_each = c.in_ok-stores.ensures.count;
       stores_listed = c.in_ok-stores.ensures.listed;
-      one_load_each = c.in_ok-loads.ensures.told.one_row_each ∙ passing_all load_node (nodes p);
-      loads_tell = c.in_ok-loads.ensures.told.rows_tell;
+      one_load_each = c.in_ok-loads.ensures.one_row_each ∙ passing_all load_node (nodes p);
+      loads_tell = c.in_ok-loads.ensures.rows_tell;
     })

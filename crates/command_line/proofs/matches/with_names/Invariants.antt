@@ -1,0 +1,9 @@
+use Rattle.std.proofs.Common.{◌≡◌, map, take}
+use Rattle.clap.specs.Words.{app_of}
+use Rattle.command_line.specs.Options.{with_rules}
+use Rattle.command_line.specs.Rows.{row_rule}
+use Rattle.command_line.proofs.matches.with_names.Given as goal
+
+-- the rules of the rows so far are added
+abbrev pub invariant-loop-row : goal.invariant-loop-row
+invariant-loop-row l = app_of l.command ≡ with_rules (app_of l.initial.command) (map row_rule (take l.row-index l.rows))

@@ -1,0 +1,16 @@
+//! The words of the command line, and the settings that they say.
+#![tactic(auto)]
+
+mod laws;
+mod matches;
+mod meaning;
+mod options;
+mod read;
+mod texts;
+
+pub use laws::one_settings;
+pub use meaning::{Command, Settings, WordsFault};
+pub use read::settings;
+
+#[cfg(test)]
+mod tests;

@@ -1,0 +1,11 @@
+pub mod Radix
+pub mod Concat
+pub mod Groups
+pub mod GroupRows
+pub mod AllLoads
+pub mod Reading
+pub mod Meaning
+pub mod LongestCuts
+pub mod GroupTables
+pub mod RankLoads
+pub mod WritingRuns

@@ -1,0 +1,5 @@
+pub mod Words
+pub mod Fitting
+pub mod Cuts
+pub mod Rows
+pub mod Outcomes

@@ -1,0 +1,127 @@
+-- What counting the outcomes of a list does to a tally.
+use Rattle.std.proofs.Common.{◌≡◌, ◌∙◌, ℕ, zero, suc, ◌+◌, ◌-◌, ◌<◌, List, [], ◌∷◌, ◌++◌, length, take, drop, map, replicate, subst, ◌^◌, length-append, length-take-le, Bool, true, false, cond, refl, sym, ap, arith, add-zero}
+use Rattle.std.specs.Prelude.{IsPermutation}
+use Rattle.std.proofs.lemmas.List.{length-map, map-append, take-append-drop}
+use Rattle.std.proofs.lemmas.List.Sorted.{IsPermutation-map, sum_by-IsPermutation}
+use Rattle.std.proofs.lemmas.List.Sums.{sum_by-append}
+use Rattle.tally.specs.declared.outcome.Outcome.{Outcome}
+use Rattle.tally.specs.declared.outcome.Outcome.TheVariants.{Inside}
+use Rattle.tally.specs.Outcomes.{outcome_eq}
+use Rattle.tally.specs.Counting.{CanCount, EndsAlike, with_rows}
+use Rattle.tally.specs.Tallies.{IsCounts, count_of, occurrences, total_of, with_each, with_more, with_one_more}
+use Rattle.tally.proofs.Growing.{IsCounts-more, count_of-more, total-more}
+use Rattle.tally.proofs.OneTally.{one_from_counts}
+
+pub IsCounts-each : (pairs : List (Outcome × ℕ)) (outcomes : List Outcome) → IsCounts pairs → IsCounts (with_each pairs outcomes)
+IsCounts-each pairs [] h = h
+IsCounts-each pairs (outcome ∷ outcomes) h = IsCounts-each (with_one_more pairs outcome) outcomes (IsCounts-more pairs (with_one_more pairs outcome) outcome 1 h (omega arith) refl)
+
+pub total-each : (pairs : List (Outcome × ℕ)) (outcomes : List Outcome) → IsCounts pairs → total_of (with_each pairs outcomes) ≡ total_of pairs + length outcomes
+total-each pairs [] h = sym (add-zero (total_of pairs))
+total-each pairs (outcome ∷ outcomes) h =
+    let one = total-more pairs (with_one_more pairs outcome) outcome 1 h refl in
+    let rest = total-each (with_one_more pairs outcome) outcomes (IsCounts-more pairs (with_one_more pairs outcome) outcome 1 h (omega arith) refl) in
+    omega (arith, one, rest)
+
+occurrences-cons : (outcome : Outcome) (outcomes : List Outcome) (other : Outcome) → occurrences (outcome ∷ outcomes) other ≡ cond (outcome_eq other outcome) 1 0 + occurrences outcomes other
+occurrences-cons outcome outcomes other = omega (arith, sum_by-append (λ x. cond (outcome_eq other x) 1 0) (outcome ∷ []) outcomes)
+
+pub count_of-each : (pairs : List (Outcome × ℕ)) (outcomes : List Outcome) (other : Outcome) → count_of (with_each pairs outcomes) other ≡ count_of pairs other + occurrences outcomes other
+count_of-each pairs [] other = sym (add-zero (count_of pairs other))
+count_of-each pairs (outcome ∷ outcomes) other =
+    let rest = count_of-each (with_one_more pairs outcome) outcomes other in
+    let more = count_of-more pairs outcome 1 other in
+    let one = occurrences-cons outcome outcomes other in
+    omega (arith, rest, more, one)
+
+-- the same places together come to the same tally
+pub same_each : (ps qs : List (Outcome × ℕ)) (xs ys : List Outcome) → IsCounts ps → IsCounts qs → ((other : Outcome) → count_of ps other + occurrences xs other ≡ count_of qs other + occurrences ys other) → with_each ps xs ≡ with_each qs ys
+same_each ps qs xs ys h k e =
+    one_from_counts (with_each ps xs) (with_each qs ys) (IsCounts-each ps xs h) (IsCounts-each qs ys k)
+    (λ other. count_of-each ps xs other ∙ e other ∙ sym (count_of-each qs ys other))
+
+pub with_each-append : (pairs : List (Outcome × ℕ)) (xs ys : List Outcome) → with_each pairs (xs ++ ys) ≡ with_each (with_each pairs xs) ys
+with_each-append pairs [] ys = refl
+with_each-append pairs (x ∷ xs) ys = with_each-append (with_one_more pairs x) xs ys
+
+-- a row at the end of the waiting ones is counted once more
+pub each-push : (pairs : List (Outcome × ℕ)) (rows : List (List ℕ)) (row : List ℕ) → with_each pairs (map Inside (rows ++ row ∷ [])) ≡ with_one_more (with_each pairs (map Inside rows)) (Inside row)
+each-push pairs rows row = ap (with_each pairs) (map-append Inside rows (row ∷ [])) ∙ with_each-append pairs (map Inside rows) (Inside row ∷ [])
+
+-- it is the same whether an outcome is counted before the others or behind them
+pub each-before : (pairs : List (Outcome × ℕ)) (outcome : Outcome) (outcomes : List Outcome) → IsCounts pairs → with_each (with_one_more pairs outcome) outcomes ≡ with_one_more (with_each pairs outcomes) outcome
+each-before pairs outcome outcomes h =
+    same_each (with_one_more pairs outcome) pairs outcomes (outcomes ++ outcome ∷ []) (IsCounts-more pairs (with_one_more pairs outcome) outcome 1 h (omega arith) refl) h
+    (λ other.
+    let before = count_of-more pairs outcome 1 other in
+    let behind = sum_by-append (λ x. cond (outcome_eq other x) 1 0) outcomes (outcome ∷ []) in
+    omega (arith, before, behind))
+    ∙ with_each-append pairs outcomes (outcome ∷ [])
+
+-- the order of the waiting rows is nothing
+pub each-permutation : (pairs : List (Outcome × ℕ)) (rows rows' : List (List ℕ)) → IsCounts pairs → IsPermutation rows rows' → with_each pairs (map Inside rows') ≡ with_each pairs (map Inside rows)
+each-permutation pairs rows rows' h p =
+    same_each pairs pairs (map Inside rows') (map Inside rows) h h
+    (λ other. ap (λ n. count_of pairs other + n) (sum_by-IsPermutation (λ x. cond (outcome_eq other x) 1 0) (map Inside rows) (map Inside rows') (IsPermutation-map Inside rows rows' p)))
+
+occurrences-replicate : (times : ℕ) (row : List ℕ) (other : Outcome) → occurrences (map Inside (replicate times row)) other ≡ cond (outcome_eq other (Inside row)) times 0
+occurrences-replicate zero row other = by (outcome_eq other (Inside row))
+  where
+    by : (b : Bool) → 0 ≡ cond {A = ℕ} b 0 0
+    by true = refl
+    by false = refl
+occurrences-replicate (suc times) row other = occurrences-cons (Inside row) (map Inside (replicate times row)) other ∙ ap (λ n. cond (outcome_eq other (Inside row)) 1 0 + n) (occurrences-replicate times row other) ∙ by (outcome_eq other (Inside row))
+  where
+    by : (b : Bool) → cond {A = ℕ} b 1 0 + cond b times 0 ≡ cond b (suc times) 0
+    by true = omega arith
+    by false = refl
+
+-- the equal rows at the end may be counted together
+pub each-group : (pairs : List (Outcome × ℕ)) (rows : List (List ℕ)) (row : List ℕ) (first : ℕ) → IsCounts pairs → EndsAlike rows row first
+    → with_each (with_more pairs (Inside row) (length rows - first)) (map Inside (take first rows)) ≡ with_each pairs (map Inside rows)
+each-group pairs rows row first h group =
+    let times : ℕ = length rows - first in
+    let grown = IsCounts-more pairs (with_more pairs (Inside row) times) (Inside row) times h (omega (arith, group.within)) refl in
+    same_each (with_more pairs (Inside row) times) pairs (map Inside (take first rows)) (map Inside rows) grown h
+    (λ other.
+    let more = count_of-more pairs (Inside row) times other in
+    let split = ap (λ rs. occurrences (map Inside rs) other) (sym (take-append-drop first rows)) ∙ ap (λ os. occurrences os other) (map-append Inside (take first rows) (drop first rows)) in
+    let parts = sum_by-append (λ x. cond (outcome_eq other x) 1 0) (map Inside (take first rows)) (map Inside (drop first rows)) in
+    let last = ap (λ rs. occurrences (map Inside rs) other) group.alike ∙ occurrences-replicate times row other in
+    omega (arith, more, split, parts, last))
+
+pub total-rows : (pairs : List (Outcome × ℕ)) (rows : List (List ℕ)) → IsCounts pairs → total_of (with_rows pairs rows) ≡ total_of pairs + length rows
+total-rows pairs rows h = total-each pairs (map Inside rows) h ∙ ap (λ n. total_of pairs + n) (length-map rows Inside)
+
+-- once the equal rows at the end are counted, as many can be counted as before
+pub CanCount-group : (pairs new : List (Outcome × ℕ)) (rows left : List (List ℕ)) (row : List ℕ) (first times : ℕ) → CanCount pairs rows → EndsAlike rows row first
+    → times ≡ length rows - first → new ≡ with_more pairs (Inside row) times → IsCounts new → left ≡ take first rows → (CanCount new left) × (with_rows new left ≡ with_rows pairs rows)
+CanCount-group pairs new rows left row first times can group times_are new_is counts left_is =
+    let total = total-more pairs new (Inside row) times can.counts new_is in
+    let kept : length left ≡ first = ap length left_is ∙ length-take-le first rows (omega (arith, group.within)) in
+    let pushed = ap (λ ps. with_rows ps left) (new_is ∙ ap (with_more pairs (Inside row)) times_are) ∙ ap (with_rows (with_more pairs (Inside row) (length rows - first))) left_is in
+    (record { counts = counts; room = omega (arith, total, kept, group.within, can.room) }, pushed ∙ each-group pairs rows row first can.counts group)
+
+-- The pairs and the waiting rows stand for `before`.
+module _ (before pairs : List (Outcome × ℕ)) (rows : List (List ℕ)) (can : CanCount pairs rows) (stands : with_rows pairs rows ≡ before) where
+  pub IsCounts-before : IsCounts before
+  IsCounts-before = subst IsCounts stands (IsCounts-each pairs (map Inside rows) can.counts)
+
+  pub total-before : total_of before ≡ total_of pairs + length rows
+  total-before = ap total_of (sym stands) ∙ total-rows pairs rows can.counts
+
+  pub row-added : (rows' : List (List ℕ)) (row : List ℕ) → rows' ≡ rows ++ row ∷ [] → with_rows pairs rows' ≡ with_one_more before (Inside row)
+  row-added rows' row e = ap (with_rows pairs) e ∙ each-push pairs rows row ∙ ap (λ ps. with_one_more ps (Inside row)) stands
+
+  pub CanCount-row : (rows' : List (List ℕ)) (row : List ℕ) → rows' ≡ rows ++ row ∷ [] → total_of before < 2 ^ 64 - 1 → CanCount pairs rows'
+  CanCount-row rows' row e room = record { counts = can.counts; room = omega (arith, total-before, room, ap length e, length-append rows (row ∷ [])) }
+
+  pub outcome-added : (new : List (Outcome × ℕ)) (outcome : Outcome) → new ≡ with_one_more pairs outcome → with_rows new rows ≡ with_one_more before outcome
+  outcome-added new outcome e = ap (λ ps. with_rows ps rows) e ∙ each-before pairs outcome (map Inside rows) can.counts ∙ ap (λ ps. with_one_more ps outcome) stands
+
+  pub CanCount-outcome : (new : List (Outcome × ℕ)) (outcome : Outcome) → new ≡ with_one_more pairs outcome → total_of before < 2 ^ 64 - 1 → CanCount new rows
+  CanCount-outcome new outcome e room =
+      record { counts = IsCounts-more pairs new outcome 1 can.counts (omega arith) e; room = omega (arith, total-before, room, total-more pairs new outcome 1 can.counts e) }
+
+  pub total-one_more : (after : List (Outcome × ℕ)) (outcome : Outcome) → after ≡ with_one_more before outcome → total_of after ≡ total_of before + 1
+  total-one_more after outcome e = total-more before after outcome 1 IsCounts-before e
