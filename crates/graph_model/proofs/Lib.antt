@@ -13,3 +13,5 @@ pub mod StoreTables
 pub mod Statics
 pub mod LoadLists
 pub mod RunOrders
+pub mod RunGraphs
+pub mod RunVerdicts

@@ -7,3 +7,4 @@ pub mod StoreTables
 pub mod StaticGraph
 pub mod Tabled
 pub mod RunGraph
+pub mod RunVerdicts

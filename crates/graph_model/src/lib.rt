@@ -11,7 +11,7 @@ mod static_graph;
 mod store_tables;
 
 pub use kept_order::kept;
-pub use reduction::few_edges_order_a_run;
+pub use reduction::{few_edges_order_a_run, verdicts_of_a_run};
 pub use run_edges::edge;
 pub use static_graph::{Full, Static};
 

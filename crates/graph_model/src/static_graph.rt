@@ -1,5 +1,5 @@
 //! What the graphs of all runs of a test have in common.
-ghost use Rattle.std.specs.Prelude.{◌≡◌, ◌+◌, ◌^◌, ◌<◌, ◌≤◌, length, IfOk};
+ghost use Rattle.std.specs.Prelude.{◌≡◌, ◌≤◌, length, IfOk};
 ghost use Rattle.test_lang.specs.Values.{load_count};
 ghost use Rattle.graph_model.specs.StaticGraph.{IsStaticGraph};
 
@@ -13,13 +13,15 @@ use test_lang::test::Test;
 
 mod full_graph;
 mod load_edges;
+mod run_graph;
 
 pub use full_graph::Full;
 
 /// The part of a run's constraint graph that doesn't depend on the run: a few kept pairs, along which the same nodes are reached as along all.
 ///
-/// A layer that looks at one run after another takes one graph by `graph_with_room`, adds the edges that `dynamic_into` gives for each load, and
-/// takes them away again by `Graph::truncate`, back to the edges of `graph` or to those of the loads before the first that changed.
+/// A layer that looks at one run after another takes one graph by `graph_for_runs`, and makes it that of one run after another by `run_into`. It may
+/// also do this by itself: take edges away by `Graph::truncate`, back to those of the loads before the first that changed, and add those of
+/// `dynamic_into` again.
 #[derive(Drop)]
 pub struct Static {
     test: Test,
@@ -70,7 +72,8 @@ impl Static {
 
     /// The number of loads of the test.
     pub fn loads(&self) -> u32
-        ensures { result ≡ load_count self.now.test }
+        ensures count { result ≡ load_count self.now.test }
+        ensures few { result ≤ 2048 }
     {
         self.test.loads()
     }
@@ -81,18 +84,5 @@ impl Static {
         ensures few { result ≤ 16 }
     {
         self.test.threads()
-    }
-
-    /// A copy of `graph` with room for so many more edges. The error is want of memory.
-    pub fn graph_with_room(&self, alloc: Global, more: u32) -> Result<Graph, AllocError>
-        requires { length self.now.graph.edges + more < 2 ^ 32 }
-        ensures { IfOk result (λ copy. copy ≡ record self.now.graph { room = length self.now.graph.edges + more }) }
-    {
-        let edges = self.graph.edges();
-        let mut copy = Graph::with_room(alloc, self.graph.nodes(), edges + more)?;
-        for edge in 0..edges {
-            copy.add(self.graph.source(edge), self.graph.target(edge));
-        }
-        Ok(copy)
     }
 }

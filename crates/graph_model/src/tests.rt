@@ -1,5 +1,5 @@
 //! Kept pairs and edges of worked tests and runs, all of them and the few.
-ghost use Rattle.std.specs.Prelude.{◌≡◌, ◌<◌, ◌≤◌, ◌+◌, [], ◌∷◌, length, IfOk};
+ghost use Rattle.std.specs.Prelude.{◌≡◌, ◌<◌, ◌≤◌, ◌+◌, ◌*◌, [], ◌∷◌, length, take, IfOk};
 ghost use Rattle.test_lang.specs.Litmus.{store_buffering, two_stores_two_loads, message_passing_fences};
 ghost use Rattle.test_lang.specs.Runs.{IsInside};
 ghost use Rattle.test_lang.specs.Values.{load_count};
@@ -253,14 +253,82 @@ fn few_edges_of_loads(rt: HostRuntime) -> Result<(), Fail> {
     check_loads(&rt, rt.alloc(), &test, &[0], &[&[(2, 0), (2, 3)]])
 }
 
-#[test]
-fn all_edges_as_a_test(rt: HostRuntime) -> Result<(), Fail> {
-    let test = buffering(rt.alloc())?;
-    let fixed = Static::of(rt.alloc(), &test, MemModel::Tso)?;
-    let full = fixed.full(&[0, 1]);
-    assert_eq!(rt; full.nodes(), 4);
-    assert!(rt; full.edge(0, 3) && full.edge(1, 2) && !full.edge(0, 1));
+fn fill_counted<L: Ledger>(
+    fixed: &Static,
+    run: &[u32],
+    graph: &mut Graph,
+    out: &mut Edges,
+    blank: Blank,
+)
+    requires inside { IsInside fixed.now.test run.now }
+    requires nodes { graph.old.nodes ≡ fixed.now.graph.nodes }
+    requires begins { take (length fixed.now.graph.edges) graph.old.edges ≡ fixed.now.graph.edges }
+    requires room { length fixed.now.graph.edges + load_count fixed.now.test * (2 + length fixed.now.test.threads) ≤ graph.old.room }
+    requires out_room { 2 + length fixed.now.test.threads ≤ out.old.room }
+    requires name { blank.name ≡ L.name }
+    requires parts { blank.parts ≡ L.parts }
+    requires some { 0 < blank.parts }
+    ensures nodes { graph.new.nodes ≡ fixed.now.graph.nodes }
+    ensures begins { take (length fixed.now.graph.edges) graph.new.edges ≡ fixed.now.graph.edges }
+    ensures room { length fixed.now.graph.edges + load_count fixed.now.test * (2 + length fixed.now.test.threads) ≤ graph.new.room }
+    ensures out_room { out.new.room ≡ out.old.room }
+{
+    let mut steps = Steps::<L>::new(blank);
+    fixed.run_into(run, graph, out, &mut steps);
+}
+
+fn fill(fixed: &Static, run: &[u32], graph: &mut Graph, out: &mut Edges)
+    requires inside { IsInside fixed.now.test run.now }
+    requires nodes { graph.old.nodes ≡ fixed.now.graph.nodes }
+    requires begins { take (length fixed.now.graph.edges) graph.old.edges ≡ fixed.now.graph.edges }
+    requires room { length fixed.now.graph.edges + load_count fixed.now.test * (2 + length fixed.now.test.threads) ≤ graph.old.room }
+    requires out_room { 2 + length fixed.now.test.threads ≤ out.old.room }
+    ensures nodes { graph.new.nodes ≡ fixed.now.graph.nodes }
+    ensures begins { take (length fixed.now.graph.edges) graph.new.edges ≡ fixed.now.graph.edges }
+    ensures room { length fixed.now.graph.edges + load_count fixed.now.test * (2 + length fixed.now.test.threads) ≤ graph.new.room }
+    ensures out_room { out.new.room ≡ out.old.room }
+{
+    fill_counted::<Brand>(fixed, run, graph, out, Blank::new(1));
+}
+
+/// Checks the graph of a run, and then that of another, made of the first one. In a test of two operations a thread their few edges are all.
+fn check_graphs(
+    rt: &impl Abort,
+    alloc: Global,
+    test: &Test,
+    first: &[u32],
+    second: &[u32],
+    want: [Pairs; 2],
+) -> Result<(), Fail>
+    requires first { IsInside test.now first.now }
+    requires second { IsInside test.now second.now }
+{
+    let fixed = Static::of(alloc, test, MemModel::Sc)?;
+    let mut graph = fixed.graph_for_runs(alloc)?;
+    let mut out = Edges::with_room(alloc, 2 + fixed.threads())?;
+    let [of_first, of_second] = want;
+    fill(&fixed, first, &mut graph, &mut out);
+    assert_eq!(rt; edges_of(alloc, &graph)?.as_slice(), of_first);
+    fill(&fixed, second, &mut graph, &mut out);
+    assert_eq!(rt; edges_of(alloc, &graph)?.as_slice(), of_second);
+    let full = fixed.full(second);
+    for from in 0..full.nodes() {
+        for to in 0..full.nodes() {
+            let want = of_second.contains(&(from, to));
+            assert_eq!(rt; full.edge(from, to), want, "{from} {to}");
+        }
+    }
     Ok(())
+}
+
+#[test]
+fn graphs_of_runs(rt: HostRuntime) -> Result<(), Fail> {
+    let test = buffering(rt.alloc())?;
+    let want: [Pairs; 2] = [
+        &[(0, 1), (2, 3), (1, 2), (0, 3)],
+        &[(0, 1), (2, 3), (2, 1), (3, 0)],
+    ];
+    check_graphs(&rt, rt.alloc(), &test, &[0, 1], &[2, 0], want)
 }
 
 fn edges_of(alloc: Global, graph: &Graph) -> Result<Vec<(u32, u32)>, AllocError> {
@@ -334,13 +402,6 @@ fn few_kept_pairs(rt: HostRuntime) -> Result<(), Fail> {
     for (model, want) in rows {
         let fixed = Static::of(rt.alloc(), &test, model)?;
         let edges = edges_of(rt.alloc(), fixed.graph())?;
-        assert_eq!(rt; edges.as_slice(), want, "{model:?}");
-        let mut copy = fixed.graph_with_room(rt.alloc(), 1)?;
-        assert_eq!(rt; copy.nodes(), 10);
-        copy.add(9, 0);
-        assert_eq!(rt; copy.edges(), fixed.graph().edges() + 1);
-        copy.truncate(fixed.graph().edges());
-        let edges = edges_of(rt.alloc(), &copy)?;
         assert_eq!(rt; edges.as_slice(), want, "{model:?}");
     }
     Ok(())
