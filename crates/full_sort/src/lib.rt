@@ -2,6 +2,7 @@
 #![tactic(auto)]
 
 mod bits;
+mod candidates;
 mod levels;
 mod node_set;
 mod reached;
