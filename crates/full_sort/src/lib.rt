@@ -18,4 +18,6 @@ pub use sorting::{
 #[cfg(test)]
 mod cycle_tests;
 #[cfg(test)]
+mod small_graph_tests;
+#[cfg(test)]
 mod tests;
