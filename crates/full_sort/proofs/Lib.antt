@@ -18,3 +18,4 @@ pub mod Reaching
 pub mod EdgeWalks
 pub mod Closures
 pub mod LeastCycles
+mod Strips

@@ -3,3 +3,4 @@ pub mod Waiting
 pub mod Scratch
 pub mod Levels
 pub mod Reached
+pub mod Candidates

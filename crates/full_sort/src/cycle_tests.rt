@@ -50,7 +50,7 @@ fn least_counted<L: Ledger>(graph: &Graph, scratch: &mut Scratch, blank: Blank) 
 }
 
 /// The nodes of the canonical cycle, or none.
-fn canonical(alloc: Global, graph: &Graph) -> Result<Nodes, AllocError> {
+pub fn canonical(alloc: Global, graph: &Graph) -> Result<Nodes, AllocError> {
     let nodes = graph.nodes();
     let mut scratch = Scratch::new(alloc, nodes)?;
     let mut cycle = Nodes::with_room(alloc, nodes)?;

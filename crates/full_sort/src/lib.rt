@@ -2,6 +2,7 @@
 #![tactic(auto)]
 
 mod bits;
+mod candidates;
 mod levels;
 mod node_set;
 mod reached;
@@ -16,5 +17,7 @@ pub use sorting::{
 
 #[cfg(test)]
 mod cycle_tests;
+#[cfg(test)]
+mod small_graph_tests;
 #[cfg(test)]
 mod tests;

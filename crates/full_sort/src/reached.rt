@@ -1,5 +1,5 @@
 //! Whether a node reaches itself.
-ghost use Rattle.std.specs.Prelude.{◌≡◌, ◌↔◌, ◌⊎◌, ℕ, ◌<◌, ◌≤◌, length, take, true, false, IsTrue, IfSome, IfNone};
+ghost use Rattle.std.specs.Prelude.{◌≡◌, ◌≢◌, ◌↔◌, ◌⊎◌, ℕ, ◌<◌, ◌≤◌, length, slice_index, take, true, false, IsTrue, IfSome, IfNone};
 ghost use Rattle.digraph.specs.Digraph.{HasEdge};
 ghost use Rattle.orders.specs.Paths.{Reach};
 ghost use Rattle.full_sort.specs.Reached.{IsListed};
@@ -86,7 +86,7 @@ fn take_reached<L: Ledger>(
 }
 
 /// Whether a path leads from the node back to it. No node is marked before and after.
-pub fn reaches_itself<L: Ledger>(
+fn reaches_itself<L: Ledger>(
     graph: &Graph,
     node: u32,
     marks: &mut [bool],
@@ -106,15 +106,19 @@ pub fn reaches_itself<L: Ledger>(
     found
 }
 
-/// The least node that reaches itself. No node is marked before and after.
+/// The least node that reaches itself. Each of those has a number other than 0 in `notes`, so that the others need no search.
+/// No node is marked before and after.
 pub fn least_reaching_itself<L: Ledger>(
     graph: &Graph,
+    notes: &[u32],
     marks: &mut [bool],
     queue: &mut [u32],
     steps: &mut Steps<L>,
 ) -> Option<u32>
+    requires notes { length notes.now ≡ graph.now.nodes }
     requires marks { length marks.old ≡ graph.now.nodes }
     requires queue { length queue.old ≡ graph.now.nodes }
+    requires noted { (t : ℕ) → Reach (HasEdge graph.now.edges) t t → slice_index notes.now t ≢ 0 }
     requires clear { (t : ℕ) → is_marked marks.old t ≡ false }
     ensures some { IfSome result (λ node. Reach (HasEdge graph.now.edges) node node) }
     ensures least { IfSome result (λ node. (t : ℕ) → t < node → ¬ Reach (HasEdge graph.now.edges) t t) }
@@ -122,6 +126,9 @@ pub fn least_reaching_itself<L: Ledger>(
     ensures clear { (t : ℕ) → is_marked marks.new t ≡ false }
 {
     for node in 0..graph.nodes() {
+        if notes[node as usize] == 0 {
+            continue;
+        }
         if reaches_itself(graph, node, marks, queue, steps) {
             return Some(node);
         }

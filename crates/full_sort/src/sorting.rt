@@ -5,6 +5,7 @@ ghost use Rattle.orders.specs.Cycles.{IsFirstShortestCycle, IsLeastOnCycle, IsOn
 ghost use Rattle.orders.specs.Orders.{IsLeastOrder, HasNoOrder, nodes_below};
 ghost use Rattle.digraph.specs.Digraph.{HasEdge, edges_out, edges_in};
 
+use crate::candidates::note_candidates;
 use crate::node_set::NodeSet;
 use crate::reached::least_reaching_itself;
 use crate::shortest::shortest_cycle;
@@ -130,7 +131,7 @@ pub fn window_order_into<L: Ledger>(
 }
 
 /// The least node that lies on a cycle, if there is a cycle. It is the first node, in rising order, from which a search along the edges comes
-/// back to it.
+/// back to it. Nodes that no cycle leads to are left out before, and so are those that lead to none: a search begins at the others alone.
 pub fn least_on_cycle<L: Ledger>(
     graph: &Graph,
     scratch: &mut Scratch,
@@ -141,8 +142,25 @@ pub fn least_on_cycle<L: Ledger>(
     ensures none { IfNone result ((node : ℕ) → ¬ IsOnCycle (HasEdge graph.now.edges) node) }
     ensures room { scratch.new ≡ scratch.old }
 {
-    let _nodes = graph.nodes();
-    least_reaching_itself(graph, &mut scratch.marks, &mut scratch.placed, steps)
+    let _edges = graph.edges();
+    note_candidates(
+        graph,
+        &scratch.all,
+        &mut scratch.waiting,
+        &mut scratch.marks,
+        &mut scratch.ready,
+        &mut scratch.placed,
+        steps,
+    );
+    let least = least_reaching_itself(
+        graph,
+        &scratch.waiting,
+        &mut scratch.marks,
+        &mut scratch.placed,
+        steps,
+    );
+    scratch.waiting.fill(0);
+    least
 }
 
 /// Puts the first, in list order, of the shortest cycles that begin at `start` into `cycle`. The node lies on a cycle.

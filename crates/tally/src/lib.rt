@@ -14,4 +14,6 @@ pub use outcome::Outcome;
 pub use signature::Signature;
 
 #[cfg(test)]
+mod counter_tests;
+#[cfg(test)]
 mod tests;
