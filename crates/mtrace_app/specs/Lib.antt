@@ -3,5 +3,11 @@ pub mod Status
 pub mod Words
 pub mod Writing
 pub mod Message
+pub mod Recorded
+pub mod Counted
+pub mod Report
+pub mod Judging
+pub mod Reporting
 pub mod Input
 pub mod Answer
+pub mod Causes

@@ -1,5 +1,5 @@
 -- What is taken from a source. The bytes that it has left are `None` where it doesn't tell them.
-use Rattle.std.specs.Prelude.{ℕ, ◌+◌, ◌^◌, ◌<◌, List, length, Option, Some, None, ⊤}
+use Rattle.std.specs.Prelude.{ℕ, ◌+◌, ◌^◌, ◌<◌, ◌≤◌, List, length, Option, Some, None, ⊤}
 use Rattle.std.specs.Io.KnownBytes.{Consumes}
 
 -- what is left now is what was left before without a front, which was taken
@@ -15,3 +15,7 @@ WhereTold (Some xs) (Some ys) P = P xs ys
 -- more bytes were taken than an input may have
 abbrev pub IsPastLimit : List ℕ → List ℕ → Type 0
 IsPastLimit before now = 2 ^ 30 + length now < length before
+
+-- no more were taken
+abbrev pub IsWithinLimit : List ℕ → List ℕ → Type 0
+IsWithinLimit before now = length before ≤ 2 ^ 30 + length now

@@ -7,7 +7,11 @@ use Rattle.mtrace_app.specs.declared.status.Status.TheVariants.{Clean, Found, Wo
 abbrev pub line_of : List ℕ → List ℕ
 line_of text = text ++ 10 ∷ []
 
--- what is put to the errors with a status, but for a refused input, whose line names more
+-- more bytes were taken than an input may have
+abbrev pub bytes_line : List ℕ
+bytes_line = line_of (codes "mtrace: too large: bytes")
+
+-- The line that is put to the errors with a status, where it is always the same. For a refused input, and for runs that pass a limit, it names more.
 abbrev pub message : Status → List ℕ
 message Clean = []
 message Found = []
@@ -16,17 +20,5 @@ message Input = line_of (codes "mtrace: input")
 message ReadFault = line_of (codes "mtrace: read fault")
 message WriteFault = line_of (codes "mtrace: write fault")
 message Memory = line_of (codes "mtrace: memory")
-message TooLarge = line_of (codes "mtrace: too large: bytes")
+message TooLarge = bytes_line
 message NotBuilt = line_of (codes "mtrace: not built")
-
--- What words with settings can be answered. So far no input has a report.
-abbrev pub AnswersSettings : Status → Type 0
-AnswersSettings Clean = ⊥
-AnswersSettings Found = ⊥
-AnswersSettings Words = ⊥
-AnswersSettings Input = Unit {0}
-AnswersSettings ReadFault = Unit {0}
-AnswersSettings WriteFault = ⊥
-AnswersSettings Memory = Unit {0}
-AnswersSettings TooLarge = Unit {0}
-AnswersSettings NotBuilt = Unit {0}

@@ -2,13 +2,21 @@
 #![tactic(auto)]
 
 mod answer;
+mod answering;
+mod check;
+mod input_fault;
+mod judging;
 mod message;
 mod program;
 mod reading;
+mod recorded;
+mod report;
 mod status;
-mod words;
+mod unread;
 mod writing;
 
+pub use command_line::{Command, Settings, WordsFault, settings};
+pub use input_fault::InputFault;
 pub use program::mtrace;
 pub use status::Status;
 

@@ -1,30 +1,28 @@
 //! The call that does all that the program does.
-ghost use Rattle.std.specs.Prelude.{◌≡◌, ◌≤◌, ◌↔◌, ℕ, List, Some, IfSome};
-ghost use Rattle.std.specs.Io.KnownBytes.{Appends, IsAtEnd, Keeps};
+ghost use Rattle.std.specs.Prelude.{◌≡◌, ◌≢◌, ◌⊎◌, ◌≤◌, ℕ, List};
+ghost use Rattle.std.specs.Io.KnownBytes.{Appends, Keeps};
 ghost use Rattle.mt_base.specs.Faults.{Rose};
-ghost use Rattle.mtrace_app.specs.Reading.{IsRestOf, WhereTold, IsPastLimit};
-ghost use Rattle.mtrace_app.specs.Answer.{IsRefusal, line_of_answer, status_of};
-ghost use Rattle.mtrace_app.specs.Input.{AnswersInput, HasTest, IsRefusedInput, TellsStatus};
-ghost use Rattle.mtrace_app.specs.Status.{AnswersSettings};
-ghost use Rattle.mtrace_app.specs.Words.{HasSettings, texts};
+ghost use Rattle.command_line.specs.declared.meaning.Settings.{Settings};
+ghost use Rattle.command_line.specs.Settings.{HasNoSettings, HasSettings};
+ghost use Rattle.mtrace_app.specs.Answer.{IsWritten, line_of_answer, status_of};
+ghost use Rattle.mtrace_app.specs.Causes.{IsCaused, TellsStatus, Writes};
+ghost use Rattle.mtrace_app.specs.Reading.{IsPastLimit, IsRestOf, WhereTold};
+ghost use Rattle.mtrace_app.specs.Status.{message};
+ghost use Rattle.mtrace_app.specs.Words.{IsCheck, texts};
 ghost use Rattle.mtrace_app.specs.Writing.{AppendsFront};
 
 use crate::answer::Answer;
-use crate::message::input_line;
-use crate::reading::{ReadError, read_to_end};
-use crate::status::Status;
-use crate::words::has_settings;
+use crate::answering::answer;
+use crate::status::{Status, message};
 use crate::writing::put_all;
 use mt_base::{Gate, Sink, Source};
 use std::alloc::Global;
 use std::thread::Threads;
-use test_lang::test::Test;
-use test_lang::text::fault::TestFault;
 
-/// Answers the words, which stand behind the program's name, and tells a status from 2 on by a line to `errs`.
+/// Answers the words, which stand behind the program's name. A status from 2 on is told by a line to `errs`.
 ///
-/// With settings it reads the source to its end. An input that doesn't begin with the text of a test is refused; what stands behind a test isn't
-/// built yet.
+/// With settings it reads the source to its end: a test, and recorded runs of it. The whole report is made before it is put to the sink, and
+/// each put offers all that is left of it. Of the commands only `check` is built.
 pub fn mtrace<S: Source, K: Sink, E: Sink, G: Gate + Sync>(
     rt: &(impl Threads + Sync),
     alloc: Global,
@@ -34,81 +32,60 @@ pub fn mtrace<S: Source, K: Sink, E: Sink, G: Gate + Sync>(
     errs: &mut E,
     gate: &G,
 ) -> Status
-    // Words without settings are answered at once.
-    ensures not_built { ¬ (HasSettings (texts words.now)) → result ≡ Status.NotBuilt }
-    ensures untouched { ¬ (HasSettings (texts words.now)) → source.new ≡ source.old }
+    // Words without settings are refused at once, and a command that isn't built is told to be so.
+    ensures words { HasNoSettings (texts words.now) → ((result ≡ Status.Words) ⊎ (result ≡ Status.Memory)) × (source.new ≡ source.old) × Keeps (K.held sink.old) (K.held sink.new) }
+    ensures not_built { (s : Settings) → HasSettings (texts words.now) s → ¬ (IsCheck s)
+        → ((result ≡ Status.NotBuilt) ⊎ (result ≡ Status.Memory)) × (source.new ≡ source.old) × Keeps (K.held sink.old) (K.held sink.new) }
 
-    // With settings the source is read, and each answer has its cause. Want of memory needs none.
-    ensures settings { HasSettings (texts words.now) → AnswersSettings result }
+    // `check`: each answer has its cause. Want of memory needs none.
+    ensures caused { (s : Settings) → HasSettings (texts words.now) s → IsCheck s → IsCaused s.model s.chunk (S.left source.old) (S.left source.new) result }
+    ensures too_large { WhereTold (S.left source.old) (S.left source.new) (λ before now. IsPastLimit before now → result ≡ Status.TooLarge) }
     ensures read_fault { result ≡ Status.ReadFault → Rose (S.faults source.old) (S.faults source.new) }
-    ensures too_large { WhereTold (S.left source.old) (S.left source.new)
-        (λ before now. (result ≡ Status.TooLarge) ↔ IsPastLimit before now) }
-    ensures input { result ≡ Status.Input → IfSome (S.left source.old) IsRefusedInput }
-    ensures test { HasSettings (texts words.now) → result ≡ Status.NotBuilt → IfSome (S.left source.old) HasTest }
-    ensures input_read { result ≡ Status.Input → IsAtEnd (S.left source.new) }
-    ensures read { HasSettings (texts words.now) → result ≡ Status.NotBuilt → IsAtEnd (S.left source.new) }
+    ensures write_fault { result ≡ Status.WriteFault → Rose (K.faults sink.old) (K.faults sink.new) }
     ensures rest { IsRestOf (S.left source.old) (S.left source.new) }
     ensures source_later { S.faults source.old ≤ S.faults source.new }
 
-    // The sink gets nothing.
-    ensures sink { Keeps (K.held sink.old) (K.held sink.new) }
+    // The sink gets the report of the recorded runs, or a front of it where it fails, or nothing.
+    ensures report { (s : Settings) → HasSettings (texts words.now) s → IsCheck s → Writes s.model s.chunk (S.left source.old) (K.held sink.old) (K.held sink.new) result }
     ensures sink_later { K.faults sink.old ≤ K.faults sink.new }
 
     // The errors get the status's line, or its front where they fail. That changes no status.
     ensures line { ¬ (Rose (E.faults errs.old) (E.faults errs.new))
-        → (told : List ℕ) × TellsStatus result (S.left source.old) told × Appends (E.held errs.old) (E.held errs.new) told }
-    ensures front { (told : List ℕ) × TellsStatus result (S.left source.old) told × AppendsFront (E.held errs.old) (E.held errs.new) told }
+        → (told : List ℕ) × TellsStatus (S.left source.old) (S.left source.new) result told × Appends (E.held errs.old) (E.held errs.new) told }
+    ensures front { (told : List ℕ) × TellsStatus (S.left source.old) (S.left source.new) result told × AppendsFront (E.held errs.old) (E.held errs.new) told }
     ensures errs_later { E.faults errs.old ≤ E.faults errs.new }
 {
     let answer = answer(alloc, words, source);
-    let _ = put_all(errs, answer.line());
-    answer.status()
+    let status = write_report(&answer, sink);
+    let _ = put_all(errs, told(&answer, status));
+    status
 }
 
-fn answer<S: Source>(alloc: Global, words: &[String], source: &mut S) -> Answer
-    ensures not_built { ¬ (HasSettings (texts words.now)) → status_of result ≡ Status.NotBuilt }
-    ensures untouched { ¬ (HasSettings (texts words.now)) → source.new ≡ source.old }
-    ensures settings { HasSettings (texts words.now) → AnswersSettings (status_of result) }
-    ensures read_fault { status_of result ≡ Status.ReadFault → Rose (S.faults source.old) (S.faults source.new) }
-    ensures too_large { WhereTold (S.left source.old) (S.left source.new)
-        (λ before now. (status_of result ≡ Status.TooLarge) ↔ IsPastLimit before now) }
-    ensures input { status_of result ≡ Status.Input → IfSome (S.left source.old) IsRefusedInput }
-    ensures test { HasSettings (texts words.now) → status_of result ≡ Status.NotBuilt → IfSome (S.left source.old) HasTest }
-    ensures input_read { status_of result ≡ Status.Input → IsAtEnd (S.left source.new) }
-    ensures read { HasSettings (texts words.now) → status_of result ≡ Status.NotBuilt → IsAtEnd (S.left source.new) }
-    ensures rest { IsRestOf (S.left source.old) (S.left source.new) }
-    ensures later { S.faults source.old ≤ S.faults source.new }
-    ensures line { TellsStatus (status_of result) (S.left source.old) (line_of_answer result) }
+/// Puts the report, if there is one, to the sink, and gives the status.
+fn write_report<K: Sink>(answer: &Answer, sink: &mut K) -> Status
+    requires { status_of answer.now ≢ Status.WriteFault }
+    ensures written { IsWritten answer.now (K.held sink.old) (K.held sink.new) result }
+    ensures fault { result ≡ Status.WriteFault → Rose (K.faults sink.old) (K.faults sink.new) }
+    ensures later { K.faults sink.old ≤ K.faults sink.new }
 {
-    if !has_settings(words) {
-        return Answer::Ended(Status::NotBuilt);
-    }
-    match read_to_end(alloc, source) {
-        Ok(bytes) => check(alloc, &bytes),
-        Err(ReadError::Fault) => Answer::Ended(Status::ReadFault),
-        Err(ReadError::TooLarge) => Answer::Ended(Status::TooLarge),
-        Err(ReadError::Memory) => Answer::Ended(Status::Memory),
+    match answer {
+        Answer::Report { text, .. } => match put_all(sink, text) {
+            Ok(()) => answer.status(),
+            Err(_) => Status::WriteFault,
+        },
+        Answer::Refused(_) => Status::Input,
+        Answer::PastLimits(_) => Status::TooLarge,
+        Answer::Ended(status) => *status,
     }
 }
 
-/// Answers an input of `check`.
-fn check(alloc: Global, input: &[u8]) -> Answer
-    ensures answers { AnswersInput input.now (status_of result) }
-    ensures line { TellsStatus (status_of result) (Some input.now) (line_of_answer result) }
+/// The line that tells how the call ends.
+fn told(answer: &Answer, status: Status) -> &[u8]
+    ensures failed { status ≡ Status.WriteFault → result.now ≡ message Status.WriteFault }
+    ensures other { status ≢ Status.WriteFault → result.now ≡ line_of_answer answer.now }
 {
-    match Test::read(alloc, input) {
-        Ok(_) => Answer::Ended(Status::NotBuilt),
-        Err(TestFault::Memory) => Answer::Ended(Status::Memory),
-        Err(fault) => refused(alloc, fault),
-    }
-}
-
-/// The answer of a refused input, or want of memory.
-fn refused(alloc: Global, fault: TestFault) -> Answer
-    ensures { IsRefusal fault result }
-{
-    match input_line(alloc, fault) {
-        Ok(line) => Answer::Refused(line),
-        Err(_) => Answer::Ended(Status::Memory),
+    match status {
+        Status::WriteFault => message(status),
+        _ => answer.line(),
     }
 }

@@ -1,59 +1,68 @@
+//! The top call over sources and sinks in memory: whole reports, refusals and their lines, and faults.
 ghost use Rattle.std.specs.Prelude.{◌≤◌, None};
 
 use super::*;
 use crate::status::message;
 use mt_base::{MemSink, MemSource, OpenGate, Source, Take};
 use std::alloc::{AllocError, Global};
+use std::process::Abort;
 use std::test::Fail;
 use std::thread::Threads;
 
-// The words, the bytes of the source and how it gives them, how the errors take what they are put, and what a call makes
-// of it: the status, what the errors hold, and what the source has left.
+const STORE_BUFFERING: &str = "mtest 1\nwords 2\nthread\nst 0\nld 1\nthread\nst 1\nld 0\nend\n";
+
+const MESSAGE_PASSING: &str = "mtest 1\nwords 2\nthread\nst 0\nst 1\nthread\nld 1\nld 0\nend\n";
+
+const MESSAGE_PASSING_FENCES: &str =
+    "mtest 1\nwords 2\nthread\nst 0\nfence\nst 1\nthread\nld 1\nfence\nld 0\nend\n";
+
+const OWN_STORES: &str = "mtest 1\nwords 1\nthread\nst 0\nst 0\nld 0\nend\n";
+
+const STORES_AGAINST_LOADS: &str =
+    "mtest 1\nwords 1\nthread\nst 0\nst 0\nthread\nld 0\nld 0\nend\n";
+
+const TWO_WRITERS: &str = "mtest 1\nwords 1\nthread\nst 0\nthread\nst 0\nthread\nld 0\nend\n";
+/// A store, then loads of one word and of another, in each of two threads.
+const STORE_THEN_LOAD_OF_ONE_WORD: &str =
+    "mtest 1\nwords 2\nthread\nst 0\nld 0\nld 1\nthread\nst 1\nld 1\nld 0\nend\n";
+
+/// What a call writes.
+#[derive(Drop)]
+struct Written {
+    status: Status,
+    output: Vec<u8>,
+    errs: Vec<u8>,
+    left: Vec<u8>,
+}
+
+/// How a call is made: the words, the input in two parts, and how the source, the sink and the errors behave.
 #[derive(Clone, Copy)]
-struct Row<'a> {
+struct Call<'a> {
     words: &'a [&'a str],
-    input: &'a [u8],
+    test: &'a str,
+    runs: &'a str,
     most: usize,
     fails: &'a [u32],
+    sink_room: usize,
+    sink_most: usize,
+    sink_fails: &'a [u32],
     errs_room: usize,
     errs_most: usize,
     errs_fails: &'a [u32],
-    status: Status,
-    errs: &'a [u8],
-    rest: &'a [u8],
 }
 
-const INPUT: &[u8] =
-    b"mtest 1\nwords 2\nthread\nst 0\nld 1\nthread\nst 1\nld 0\nend\nrun 0 0\ndone\n";
-
-const CHECK: Row<'static> = Row {
-    words: &["check"],
-    input: INPUT,
+const CHECK: Call<'static> = Call {
+    words: &["check", "--chunk", "1"],
+    test: STORE_BUFFERING,
+    runs: "run 0 0\ndone\n",
     most: 65536,
     fails: &[],
+    sink_room: 10000,
+    sink_most: 10000,
+    sink_fails: &[],
     errs_room: 100,
     errs_most: 100,
     errs_fails: &[],
-    status: Status::NotBuilt,
-    errs: b"mtrace: not built\n",
-    rest: b"",
-};
-
-const REFUSED: Row<'static> = Row {
-    words: &[],
-    rest: INPUT,
-    ..CHECK
-};
-
-const FAILED: Row<'static> = Row {
-    status: Status::ReadFault,
-    errs: b"mtrace: read fault\n",
-    ..CHECK
-};
-
-const BAD_INPUT: Row<'static> = Row {
-    status: Status::Input,
-    ..CHECK
 };
 
 fn strings(alloc: Global, words: &[&str]) -> Result<Vec<String>, AllocError> {
@@ -64,115 +73,7 @@ fn strings(alloc: Global, words: &[&str]) -> Result<Vec<String>, AllocError> {
     Ok(strings)
 }
 
-const ROWS: [Row<'static>; 22] = [
-    CHECK,
-    Row { most: 1, ..CHECK },
-    Row {
-        input: b"",
-        errs: b"mtrace: input line 1: NoEnd\n",
-        ..BAD_INPUT
-    },
-    Row {
-        input: b"mtest 2\n",
-        errs: b"mtrace: input line 1: BadHead\n",
-        ..BAD_INPUT
-    },
-    Row {
-        input: b"mtest 1\nwords 2\nthread\nst 0",
-        errs: b"mtrace: input line 4: NoEnd\n",
-        ..BAD_INPUT
-    },
-    Row {
-        input: b"mtest 1\nwords 2\nthread\nst 0\nld 2\nend\n",
-        errs: b"mtrace: input line 5: WordRange\n",
-        ..BAD_INPUT
-    },
-    Row {
-        input: b"mtest 1\nwords 257\n",
-        errs: b"mtrace: input line 2: BadWords\n",
-        ..BAD_INPUT
-    },
-    Row {
-        input: b"mtest 1\nwords 1\nst 0\n",
-        errs: b"mtrace: input line 3: NoThread\n",
-        ..BAD_INPUT
-    },
-    Row {
-        input: b"mtest 1\nwords 1\nthread\nld 00\n",
-        errs: b"mtrace: input line 4: BadLine\n",
-        ..BAD_INPUT
-    },
-    Row {
-        input: b"mtest 1\nwords 1\nthread\nthread\nthread\nthread\nthread\nthread\nthread\nthread\nthread\nthread\nthread\nthread\nthread\nthread\nthread\nthread\nthread\n",
-        errs: b"mtrace: input line 19: TooManyThreads\n",
-        ..BAD_INPUT
-    },
-    REFUSED,
-    Row {
-        words: &["generate"],
-        ..REFUSED
-    },
-    Row {
-        words: &["check "],
-        ..REFUSED
-    },
-    Row {
-        words: &["check", "check"],
-        ..REFUSED
-    },
-    Row {
-        words: &["--model", "sc", "check"],
-        ..REFUSED
-    },
-    Row {
-        fails: &[0],
-        rest: INPUT,
-        ..FAILED
-    },
-    Row {
-        fails: &[1],
-        ..FAILED
-    },
-    Row {
-        fails: &[2],
-        most: 30,
-        rest: b"0\ndone\n",
-        ..FAILED
-    },
-    Row {
-        errs_most: 1,
-        ..CHECK
-    },
-    Row {
-        errs_fails: &[0],
-        errs: b"",
-        ..CHECK
-    },
-    Row {
-        errs_most: 4,
-        errs_fails: &[2],
-        errs: b"mtrace: ",
-        ..REFUSED
-    },
-    Row {
-        errs_room: 9,
-        errs: b"mtrace: r",
-        fails: &[0],
-        rest: INPUT,
-        ..FAILED
-    },
-];
-
-// What a call makes of a row.
-#[derive(Drop)]
-struct Outcome {
-    status: Status,
-    errs: Vec<u8>,
-    held: usize,
-    left: Vec<u8>,
-}
-
-// What is left, at most so many bytes; takes that fail are made again.
+/// What is left, at most so many bytes; takes that fail are made again.
 fn left_of(alloc: Global, mut source: MemSource, most: usize) -> Result<Vec<u8>, AllocError> {
     let mut left = Vec::new(alloc);
     let mut block = [0u8; 1];
@@ -184,31 +85,37 @@ fn left_of(alloc: Global, mut source: MemSource, most: usize) -> Result<Vec<u8>,
     Ok(left)
 }
 
-fn source_of(alloc: Global, row: &Row<'_>) -> Result<MemSource, AllocError>
-    requires { 1 ≤ row.now.most }
+fn source_of(alloc: Global, call: &Call<'_>) -> Result<MemSource, AllocError>
+    requires { 1 ≤ call.now.most }
 {
-    Ok(MemSource::new(row.input.to_vec(alloc)?, row.most, row.fails.to_vec(alloc)?))
+    let mut bytes = call.test.as_bytes().to_vec(alloc)?;
+    bytes.extend_from_slice(call.runs.as_bytes())?;
+    Ok(MemSource::new(bytes, call.most, call.fails.to_vec(alloc)?))
 }
 
-fn errs_of(alloc: Global, row: &Row<'_>) -> Result<MemSink, AllocError>
-    requires { 1 ≤ row.now.errs_most }
+fn make_call(
+    rt: &(impl Threads + Sync),
+    alloc: Global,
+    call: &Call<'_>,
+) -> Result<Written, AllocError>
+    requires most { 1 ≤ call.now.most }
+    requires sink_most { 1 ≤ call.now.sink_most }
+    requires errs_most { 1 ≤ call.now.errs_most }
 {
-    MemSink::with_room(
+    let words = strings(alloc, call.words)?;
+    let mut source = source_of(alloc, call)?;
+    let mut sink = MemSink::with_room(
         alloc,
-        row.errs_room,
-        row.errs_most,
-        row.errs_fails.to_vec(alloc)?,
-    )
-}
-
-fn called(rt: &(impl Threads + Sync), alloc: Global, row: &Row<'_>) -> Result<Outcome, AllocError>
-    requires most { 1 ≤ row.now.most }
-    requires errs_most { 1 ≤ row.now.errs_most }
-{
-    let words = strings(alloc, row.words)?;
-    let mut source = source_of(alloc, row)?;
-    let mut sink = MemSink::with_room(alloc, 8, 8, Vec::new(alloc))?;
-    let mut errs = errs_of(alloc, row)?;
+        call.sink_room,
+        call.sink_most,
+        call.sink_fails.to_vec(alloc)?,
+    )?;
+    let mut errs = MemSink::with_room(
+        alloc,
+        call.errs_room,
+        call.errs_most,
+        call.errs_fails.to_vec(alloc)?,
+    )?;
     let status = mtrace(
         rt,
         alloc,
@@ -218,24 +125,542 @@ fn called(rt: &(impl Threads + Sync), alloc: Global, row: &Row<'_>) -> Result<Ou
         &mut errs,
         &OpenGate,
     );
-    Ok(Outcome {
+    Ok(Written {
         status,
+        output: sink.held_bytes().to_vec(alloc)?,
         errs: errs.held_bytes().to_vec(alloc)?,
-        held: sink.held_bytes().len(),
-        left: left_of(alloc, source, 100)?,
+        left: left_of(alloc, source, 200)?,
     })
 }
 
-#[test]
-fn each_call_has_its_status_and_its_line(rt: HostRuntime) -> Result<(), Fail> {
-    for row in &ROWS {
-        assert!(rt; 0 < row.most && 0 < row.errs_most);
-        let outcome = called(&rt, rt.alloc(), row)?;
-        assert_eq!(rt; outcome.status, row.status);
-        assert_eq!(rt; outcome.errs.as_slice(), row.errs);
-        assert_eq!(rt; outcome.held, 0);
-        assert_eq!(rt; outcome.left.as_slice(), row.rest);
+/// Checks the status, the output and the line of a call, and that it leaves nothing of its input.
+fn check(
+    rt: &(impl Threads + Abort + Sync),
+    alloc: Global,
+    call: &Call<'_>,
+    status: Status,
+    output: &str,
+    line: &str,
+) -> Result<(), Fail> {
+    if call.most == 0 || call.sink_most == 0 || call.errs_most == 0 {
+        return Err(Fail::from("a call that moves nothing"));
     }
+    let written = make_call(rt, alloc, call)?;
+    assert_eq!(rt; written.status, status, "{0} {1}", call.test, call.runs);
+    assert_eq!(rt;
+        written.output.as_slice(),
+        output.as_bytes(),
+        "{0} {1}",
+        call.test,
+        call.runs
+    );
+    assert_eq!(rt;
+        written.errs.as_slice(),
+        line.as_bytes(),
+        "{0} {1}",
+        call.test,
+        call.runs
+    );
+    assert!(rt; written.left.is_empty(), "{0} {1}", call.test, call.runs);
+    Ok(())
+}
+
+#[test]
+fn reports_of_runs(rt: HostRuntime) -> Result<(), Fail> {
+    let sc: &[&str] = &["check", "--chunk", "1"];
+    let tso: &[&str] = &["check", "--chunk=1", "--model=tso"];
+    let weak: &[&str] = &["check", "--model", "weak", "--chunk", "1"];
+    let rows = [
+        // Store buffering: both loads give the initial value.
+        (
+            sc,
+            STORE_BUFFERING,
+            "run 0 0\ndone\n",
+            Status::Found,
+            "mtrace 1\nmodel sc\nruns 1\n\
+            sig 0000000000000000.0000000000000000 count 1 cycle 0 1 2 3\n\
+            sum signatures 1 ok 0 cycle 1 outside 0\n\
+            work chunks 1 full 1 kept 0 resorted 0 nodes 0\n",
+        ),
+        (
+            tso,
+            STORE_BUFFERING,
+            "run 0 0\ndone\n",
+            Status::Clean,
+            "mtrace 1\nmodel tso\nruns 1\n\
+            sig 0000000000000000.0000000000000000 count 1 ok\n\
+            sum signatures 1 ok 1 cycle 0 outside 0\n\
+            work chunks 1 full 1 kept 0 resorted 0 nodes 0\n",
+        ),
+        // All four runs, each twice, with equal ones apart.
+        (
+            sc,
+            STORE_BUFFERING,
+            "run 2 1\nrun 2 0\nrun 0 1\nrun 0 0\nrun 2 1\nrun 2 0\nrun 0 1\nrun 0 0\ndone\n",
+            Status::Found,
+            "mtrace 1\nmodel sc\nruns 8\n\
+            sig 0000000000000000.0000000000000000 count 2 cycle 0 1 2 3\n\
+            sig 0000000000000000.0000000000000001 count 2 ok\n\
+            sig 0000000000000001.0000000000000000 count 2 ok\n\
+            sig 0000000000000001.0000000000000001 count 2 ok\n\
+            sum signatures 4 ok 3 cycle 1 outside 0\n\
+            work chunks 4 full 4 kept 0 resorted 0 nodes 0\n",
+        ),
+        // Message passing: the flag is seen, and the data aren't.
+        (
+            sc,
+            MESSAGE_PASSING,
+            "run 2 0\ndone\n",
+            Status::Found,
+            "mtrace 1\nmodel sc\nruns 1\n\
+            sig 0000000000000001 count 1 cycle 0 1 2 3\n\
+            sum signatures 1 ok 0 cycle 1 outside 0\n\
+            work chunks 1 full 1 kept 0 resorted 0 nodes 0\n",
+        ),
+        (
+            tso,
+            MESSAGE_PASSING,
+            "run 2 0\ndone\n",
+            Status::Found,
+            "mtrace 1\nmodel tso\nruns 1\n\
+            sig 0000000000000001 count 1 cycle 0 1 2 3\n\
+            sum signatures 1 ok 0 cycle 1 outside 0\n\
+            work chunks 1 full 1 kept 0 resorted 0 nodes 0\n",
+        ),
+        (
+            weak,
+            MESSAGE_PASSING,
+            "run 2 0\ndone\n",
+            Status::Clean,
+            "mtrace 1\nmodel weak\nruns 1\n\
+            sig 0000000000000001 count 1 ok\n\
+            sum signatures 1 ok 1 cycle 0 outside 0\n\
+            work chunks 1 full 1 kept 0 resorted 0 nodes 0\n",
+        ),
+        // With fences: the shortest cycle leaves them out where they aren't needed.
+        (
+            sc,
+            MESSAGE_PASSING_FENCES,
+            "run 2 0\ndone\n",
+            Status::Found,
+            "mtrace 1\nmodel sc\nruns 1\n\
+            sig 0000000000000001 count 1 cycle 0 2 3 5\n\
+            sum signatures 1 ok 0 cycle 1 outside 0\n\
+            work chunks 1 full 1 kept 0 resorted 0 nodes 0\n",
+        ),
+        (
+            weak,
+            MESSAGE_PASSING_FENCES,
+            "run 2 0\ndone\n",
+            Status::Found,
+            "mtrace 1\nmodel weak\nruns 1\n\
+            sig 0000000000000001 count 1 cycle 0 1 2 3 4 5\n\
+            sum signatures 1 ok 0 cycle 1 outside 0\n\
+            work chunks 1 full 1 kept 0 resorted 0 nodes 0\n",
+        ),
+        // Two loads see two stores of another thread in the other order.
+        (
+            weak,
+            STORES_AGAINST_LOADS,
+            "run 2 1\ndone\n",
+            Status::Found,
+            "mtrace 1\nmodel weak\nruns 1\n\
+            sig 0000000000000005 count 1 cycle 1 2 3\n\
+            sum signatures 1 ok 0 cycle 1 outside 0\n\
+            work chunks 1 full 1 kept 0 resorted 0 nodes 0\n",
+        ),
+        (
+            sc,
+            STORES_AGAINST_LOADS,
+            "run 1 2\ndone\n",
+            Status::Clean,
+            "mtrace 1\nmodel sc\nruns 1\n\
+            sig 0000000000000007 count 1 ok\n\
+            sum signatures 1 ok 1 cycle 0 outside 0\n\
+            work chunks 1 full 1 kept 0 resorted 0 nodes 0\n",
+        ),
+        // A load may pass a store of its own thread to its word.
+        (
+            tso,
+            STORE_THEN_LOAD_OF_ONE_WORD,
+            "run 1 0 2 0\ndone\n",
+            Status::Clean,
+            "mtrace 1\nmodel tso\nruns 1\n\
+            sig 0000000000000000.0000000000000000 count 1 ok\n\
+            sum signatures 1 ok 1 cycle 0 outside 0\n\
+            work chunks 1 full 1 kept 0 resorted 0 nodes 0\n",
+        ),
+        (
+            sc,
+            STORE_THEN_LOAD_OF_ONE_WORD,
+            "run 1 0 2 0\ndone\n",
+            Status::Found,
+            "mtrace 1\nmodel sc\nruns 1\n\
+            sig 0000000000000000.0000000000000000 count 1 cycle 0 2 3 5\n\
+            sum signatures 1 ok 0 cycle 1 outside 0\n\
+            work chunks 1 full 1 kept 0 resorted 0 nodes 0\n",
+        ),
+        (
+            sc,
+            TWO_WRITERS,
+            "run 1\nrun 2\ndone\n",
+            Status::Clean,
+            "mtrace 1\nmodel sc\nruns 2\n\
+            sig 0000000000000001 count 1 ok\n\
+            sig 0000000000000002 count 1 ok\n\
+            sum signatures 2 ok 2 cycle 0 outside 0\n\
+            work chunks 2 full 2 kept 0 resorted 0 nodes 0\n",
+        ),
+        // The only candidate is the last store of its own thread.
+        (
+            sc,
+            OWN_STORES,
+            "run 1\nrun 0\nrun 9\ndone\n",
+            Status::Found,
+            "mtrace 1\nmodel sc\nruns 3\n\
+            outside 2 value 0 count 1\n\
+            outside 2 value 1 count 1\n\
+            outside 2 value 9 count 1\n\
+            sum signatures 0 ok 0 cycle 0 outside 3\n\
+            work chunks 0 full 0 kept 0 resorted 0 nodes 0\n",
+        ),
+        (
+            sc,
+            OWN_STORES,
+            "run 2\nrun 4294967295\nrun 2\ndone\n",
+            Status::Found,
+            "mtrace 1\nmodel sc\nruns 3\n\
+            sig 0000000000000000 count 2 ok\n\
+            outside 2 value 4294967295 count 1\n\
+            sum signatures 1 ok 1 cycle 0 outside 1\n\
+            work chunks 1 full 1 kept 0 resorted 0 nodes 0\n",
+        ),
+        // No operation, and no run.
+        (
+            sc,
+            "mtest 1\nwords 1\nthread\nend\n",
+            "run\ndone\n",
+            Status::Clean,
+            "mtrace 1\nmodel sc\nruns 1\n\
+            sig none count 1 ok\n\
+            sum signatures 1 ok 1 cycle 0 outside 0\n\
+            work chunks 1 full 1 kept 0 resorted 0 nodes 0\n",
+        ),
+        (
+            sc,
+            "mtest 1\nwords 1\nthread\nend\n",
+            "done\n",
+            Status::Clean,
+            "mtrace 1\nmodel sc\nruns 0\n\
+            sum signatures 0 ok 0 cycle 0 outside 0\n\
+            work chunks 0 full 0 kept 0 resorted 0 nodes 0\n",
+        ),
+        // Stores alone: no load has a word.
+        (
+            sc,
+            "mtest 1\nwords 1\nthread\nst 0\nthread\nst 0\nend\n",
+            "run\nrun\ndone\n",
+            Status::Clean,
+            "mtrace 1\nmodel sc\nruns 2\n\
+            sig none count 2 ok\n\
+            sum signatures 1 ok 1 cycle 0 outside 0\n\
+            work chunks 1 full 1 kept 0 resorted 0 nodes 0\n",
+        ),
+    ];
+    for (words, test, runs, status, output) in &rows {
+        let call = Call {
+            words: *words,
+            test: *test,
+            runs: *runs,
+            ..CHECK
+        };
+        check(&rt, rt.alloc(), &call, *status, *output, "")?;
+        // One byte for each take, and three for each put.
+        let slow = Call {
+            most: 1,
+            sink_most: 3,
+            ..call
+        };
+        check(&rt, rt.alloc(), &slow, *status, *output, "")?;
+    }
+    Ok(())
+}
+
+/// A text many times over, and a text behind it.
+fn repeated(alloc: Global, text: &str, times: u32, end: &str) -> Result<String, AllocError> {
+    let mut all = String::new(alloc);
+    for _ in 0..times {
+        all.push_str(text)?;
+    }
+    all.push_str(end)?;
+    Ok(all)
+}
+
+#[test]
+fn signatures_of_several_words(rt: HostRuntime) -> Result<(), Fail> {
+    let alloc = rt.alloc();
+    let test = repeated(alloc, "ld 0\n", 65, "end\n")?;
+    let test = format!(in alloc; "mtest 1\nwords 1\nthread\nst 0\nthread\n{test}")?;
+    let run = repeated(alloc, " 1", 65, "\ndone\n")?;
+    let run = format!(in alloc; "run{run}")?;
+    let call = Call {
+        test: test.as_str(),
+        runs: run.as_str(),
+        ..CHECK
+    };
+    let output = "mtrace 1\nmodel sc\nruns 1\nsig ffffffffffffffff.0000000000000001 count 1 ok\n\
+        sum signatures 1 ok 1 cycle 0 outside 0\nwork chunks 1 full 1 kept 0 resorted 0 nodes 0\n";
+    check(&rt, alloc, &call, Status::Clean, output, "")
+}
+
+#[test]
+fn limits_on_runs_and_values(rt: HostRuntime) -> Result<(), Fail> {
+    let alloc = rt.alloc();
+    let test = "mtest 1\nwords 1\nthread\nst 0\nend\n";
+    let runs = repeated(alloc, "run\n", 1_000_000, "done\n")?;
+    let call = Call {
+        test,
+        runs: runs.as_str(),
+        ..CHECK
+    };
+    let output = "mtrace 1\nmodel sc\nruns 1000000\nsig none count 1000000 ok\n\
+        sum signatures 1 ok 1 cycle 0 outside 0\nwork chunks 1 full 1 kept 0 resorted 0 nodes 0\n";
+    check(&rt, alloc, &call, Status::Clean, output, "")?;
+    let more = format!(in alloc; "run\n{runs}")?;
+    let call = Call {
+        test,
+        runs: more.as_str(),
+        ..CHECK
+    };
+    check(
+        &rt,
+        alloc,
+        &call,
+        Status::TooLarge,
+        "",
+        "mtrace: too large: runs 1000001\n",
+    )?;
+    // A bad line behind the last run that fits is still refused.
+    let bad = format!(in alloc; "run\n{runs}x")?;
+    let call = Call {
+        test,
+        runs: bad.as_str(),
+        ..CHECK
+    };
+    check(
+        &rt,
+        alloc,
+        &call,
+        Status::Input,
+        "",
+        "mtrace: input line 1000008: AfterDone\n",
+    )?;
+    let test = repeated(alloc, "ld 0\n", 2048, "end\n")?;
+    let test = format!(in alloc; "mtest 1\nwords 1\nthread\n{test}")?;
+    let run = repeated(alloc, " 0", 2048, "\n")?;
+    let run = format!(in alloc; "run{run}")?;
+    let runs = repeated(alloc, run.as_str(), 32769, "done\n")?;
+    let call = Call {
+        test: test.as_str(),
+        runs: runs.as_str(),
+        ..CHECK
+    };
+    check(
+        &rt,
+        alloc,
+        &call,
+        Status::TooLarge,
+        "",
+        "mtrace: too large: values 67110912\n",
+    )
+}
+
+#[test]
+fn refused_inputs(rt: HostRuntime) -> Result<(), Fail> {
+    let rows = [
+        ("", "", "line 1: NoEnd"),
+        ("mtest 2\n", "", "line 1: BadHead"),
+        ("mtest 1\r\n", "", "line 1: BadHead"),
+        ("mtest 1\nwords 257\n", "", "line 2: BadWords"),
+        ("mtest 1\nwords 1\nst 0\n", "", "line 3: NoThread"),
+        ("mtest 1\nwords 2\nthread\nst 0", "", "line 4: NoEnd"),
+        ("mtest 1\nwords 1\nthread\nld 00\n", "", "line 4: BadLine"),
+        (
+            "mtest 1\nwords 2\nthread\nst 0\nld 2\nend\n",
+            "",
+            "line 5: WordRange",
+        ),
+        (STORE_BUFFERING, "", "line 10: NoDone"),
+        (
+            STORE_BUFFERING,
+            "run 0\ndone\n",
+            "line 10: WrongCount want 2 got 1",
+        ),
+        (
+            STORE_BUFFERING,
+            "run 0 0 0\ndone\n",
+            "line 10: WrongCount want 2 got 3",
+        ),
+        (
+            STORE_BUFFERING,
+            "run 0 4294967296\ndone\n",
+            "line 10: ValueRange",
+        ),
+        (STORE_BUFFERING, "run 0 0\n", "line 11: NoDone"),
+        (STORE_BUFFERING, "run 0 0\ndone\n\n", "line 12: AfterDone"),
+        (
+            STORE_BUFFERING,
+            "run 0 0\nrun  0 0\ndone\n",
+            "line 11: BadRunLine",
+        ),
+        (
+            STORE_BUFFERING,
+            "run 0 0\nrun 0 01\ndone\n",
+            "line 11: BadRunLine",
+        ),
+        (STORE_BUFFERING, "run 0 0\r\ndone\n", "line 10: BadRunLine"),
+        (STORE_BUFFERING, "run 0 0\nrun 0 0\ndone", "line 12: NoDone"),
+    ];
+    for (test, runs, reason) in rows {
+        let line = format!(in rt.alloc(); "mtrace: input {reason}\n")?;
+        let call = Call {
+            test,
+            runs,
+            ..CHECK
+        };
+        check(&rt, rt.alloc(), &call, Status::Input, "", line.as_str())?;
+    }
+    Ok(())
+}
+
+#[test]
+fn words_and_what_is_not_built(rt: HostRuntime) -> Result<(), Fail> {
+    let refused: [&[&str]; 5] = [
+        &[],
+        &["check", "--chunk", "0"],
+        &["verify"],
+        &["check", "--seed", "007"],
+        &["--help"],
+    ];
+    let unbuilt: [&[&str]; 3] = [
+        &["run"],
+        &["demo", "--model", "tso"],
+        &["generate", "--seed", "1"],
+    ];
+    let calls = refused
+        .iter()
+        .map(|words| (*words, Status::Words, "mtrace: words\n"));
+    for (words, status, line) in calls.chain(
+        unbuilt
+            .iter()
+            .map(|words| (*words, Status::NotBuilt, "mtrace: not built\n")),
+    ) {
+        let call = Call { words, ..CHECK };
+        let written = make_call(&rt, rt.alloc(), &call)?;
+        assert_eq!(rt; written.status, status);
+        assert_eq!(rt; written.errs.as_slice(), line.as_bytes());
+        assert!(rt; written.output.is_empty() && !written.left.is_empty());
+    }
+    // Several signatures in a chunk aren't built, and one alone is.
+    let call = Call {
+        words: &["check"],
+        runs: "run 0 0\nrun 0 1\ndone\n",
+        ..CHECK
+    };
+    check(
+        &rt,
+        rt.alloc(),
+        &call,
+        Status::NotBuilt,
+        "",
+        "mtrace: not built\n",
+    )?;
+    let call = Call {
+        words: &["check"],
+        ..CHECK
+    };
+    let output =
+        "mtrace 1\nmodel sc\nruns 1\nsig 0000000000000000.0000000000000000 count 1 cycle 0 1 2 3\n\
+        sum signatures 1 ok 0 cycle 1 outside 0\nwork chunks 1 full 1 kept 0 resorted 0 nodes 0\n";
+    check(&rt, rt.alloc(), &call, Status::Found, output, "")
+}
+
+#[test]
+fn faults_of_reading_and_writing(rt: HostRuntime) -> Result<(), Fail> {
+    let alloc = rt.alloc();
+    // One byte for each take, and the sixth fails.
+    let call = Call {
+        most: 1,
+        fails: &[5],
+        ..CHECK
+    };
+    let made = make_call(&rt, alloc, &call)?;
+    assert_eq!(rt; made.status, Status::ReadFault);
+    assert_eq!(rt; made.errs.as_slice(), b"mtrace: read fault\n".as_slice());
+    assert!(rt; made.output.is_empty());
+    // The take that would tell the end fails.
+    let call = Call {
+        fails: &[1],
+        ..CHECK
+    };
+    let made = make_call(&rt, alloc, &call)?;
+    assert_eq!(rt; made.status, Status::ReadFault);
+    // Eight bytes for each put, and the second fails.
+    let call = Call {
+        sink_most: 8,
+        sink_fails: &[1],
+        ..CHECK
+    };
+    check(
+        &rt,
+        alloc,
+        &call,
+        Status::WriteFault,
+        "mtrace 1",
+        "mtrace: write fault\n",
+    )?;
+    // The first put fails; a room that is too small.
+    let call = Call {
+        sink_fails: &[0],
+        ..CHECK
+    };
+    check(
+        &rt,
+        alloc,
+        &call,
+        Status::WriteFault,
+        "",
+        "mtrace: write fault\n",
+    )?;
+    let call = Call {
+        sink_room: 20,
+        sink_most: 20,
+        ..CHECK
+    };
+    check(
+        &rt,
+        alloc,
+        &call,
+        Status::WriteFault,
+        "mtrace 1\nmodel sc\nru",
+        "mtrace: write fault\n",
+    )?;
+    // A fault of the errors changes no status.
+    let call = Call {
+        runs: "run 0\ndone\n",
+        errs_most: 4,
+        errs_fails: &[2],
+        ..CHECK
+    };
+    check(&rt, alloc, &call, Status::Input, "", "mtrace: ")?;
+    let call = Call {
+        words: &[],
+        errs_fails: &[0],
+        ..CHECK
+    };
+    let made = make_call(&rt, alloc, &call)?;
+    assert_eq!(rt; made.status, Status::Words);
+    assert!(rt; made.errs.is_empty());
     Ok(())
 }
 
@@ -257,7 +682,7 @@ fn each_status_has_its_number_and_its_line(rt: HostRuntime) {
     }
 }
 
-// It fills every buffer with line feeds.
+/// It fills every buffer with line feeds.
 #[derive(Drop)]
 struct LineFeeds;
 

@@ -1,0 +1,96 @@
+-- Each signature of the tally of runs means one of them.
+use Rattle.std.proofs.Common.{◌≡◌, ℕ, ◌+◌, ◌≤◌, List, [], ◌∷◌, map, Bool, true, false, cond, All, refl, sym, ap, arith}
+use Rattle.std.specs.Prelude.{Option, Some, None, unwrap_or}
+use Rattle.std.specs.List.{AllByRecursion}
+use Rattle.std.specs.Map.{keys_of, values_of, lookup}
+use Rattle.std.specs.Option.{option_map}
+use Rattle.std.proofs.lemmas.List.Elements.{All-head, All-tail}
+use Rattle.std.proofs.lemmas.List.Sums.{sum_by-append}
+use Rattle.tally.specs.declared.outcome.Outcome.{Outcome}
+use Rattle.tally.specs.declared.outcome.Outcome.TheVariants.{Inside, Outside}
+use Rattle.tally.specs.Outcomes.{outcome_eq}
+use Rattle.tally.specs.OutcomeLaws.{outcome_eq_decides}
+use Rattle.tally.specs.Tallies.{IsTally, count_of, occurrences}
+use Rattle.test_lang.specs.Program.{Program}
+use Rattle.test_lang.specs.Runs.{first_outside, outside_of, value_read, IsInside}
+use Rattle.test_lang.specs.Signatures.{Means, signature}
+use Rattle.test_lang.specs.Values.{load_count}
+use Rattle.run_text.specs.Runs.{IsRunOf, AreRunsOf}
+use Rattle.signature_plan.specs.Outcomes.{outcome_by, outcome_of}
+use Rattle.verdict_report.specs.Lines.{signatures}
+use Rattle.mtrace_app.specs.Report.{AreMeant}
+
+-- ---- the outcomes that were counted are outcomes of runs
+
+abbrev RunWith : Program → Outcome → Type 0
+RunWith p outcome = (run : List ℕ) × IsRunOf (load_count p) run × (outcome_of p run ≡ outcome)
+
+this_or_later : (p : Program) (outcome : Outcome) (run : List ℕ) (b : Bool) (later : ℕ) → outcome_eq outcome (outcome_of p run) ≡ b → IsRunOf (load_count p) run → 1 ≤ cond b 1 0 + later → (1 ≤ later → RunWith p outcome) → RunWith p outcome
+this_or_later p outcome run true later e is_run some more = (run, is_run, sym ((outcome_eq_decides outcome (outcome_of p run)).0 e))
+this_or_later p outcome run false later e is_run some more = more (omega (arith, some))
+
+run_with : (p : Program) (outcome : Outcome) (runs : List (List ℕ)) → AreRunsOf (load_count p) runs → 1 ≤ occurrences (map (outcome_of p) runs) outcome → RunWith p outcome
+run_with p outcome [] each some = absurd (omega (arith, some))
+run_with p outcome (run ∷ runs) each some =
+    this_or_later p outcome run (outcome_eq outcome (outcome_of p run)) (occurrences (map (outcome_of p) runs) outcome) refl each.0
+    (omega (arith, some, sum_by-append (λ x. cond (outcome_eq outcome x) 1 0) (outcome_of p run ∷ []) (map (outcome_of p) runs))) (run_with p outcome runs each.1)
+
+-- ---- a signature that is a run's outcome means it
+
+none_outside : (p : Program) (run : List ℕ) (found : Option ℕ) → option_map {U = ℕ × ℕ} (λ load. (load, value_read p run load)) found ≡ None → found ≡ None
+none_outside p run None e = refl
+none_outside p run (Some load) e = cc
+
+means_by : (p : Program) (run words : List ℕ) (found : Option (ℕ × ℕ)) → IsRunOf (load_count p) run → outside_of p run ≡ found → outcome_by p run found ≡ Inside words → Means p words run
+means_by p run words None is_run none e = record {
+  inside = record { is_run = record { whole = is_run.whole; values = is_run.values }; none_outside = none_outside p run (first_outside p run) none };
+  words_are = cc;
+}
+means_by p run words (Some load) is_run some e = absurd cc
+
+-- ---- each outcome of a tally was counted at least once
+
+abbrev AreCounted : List (Outcome × ℕ) → List Outcome → Type 0
+AreCounted pairs outcomes = AllByRecursion (λ outcome. 1 ≤ count_of pairs outcome) outcomes
+
+first_or_later : (b : Bool) (first : ℕ) (later : Option ℕ) → 1 ≤ first → 1 ≤ unwrap_or later 0 → 1 ≤ unwrap_or (cond b (Some first) later) 0
+first_or_later true first later f l = f
+first_or_later false first later f l = l
+
+counted_behind : (pair : Outcome × ℕ) (pairs : List (Outcome × ℕ)) (outcomes : List Outcome) → 1 ≤ pair.1 → AreCounted pairs outcomes → AreCounted (pair ∷ pairs) outcomes
+counted_behind pair pairs [] some h = tt
+counted_behind pair pairs (outcome ∷ more) some h = (first_or_later (outcome_eq outcome pair.0) pair.1 (lookup (outcome_eq outcome) pairs) some h.0, counted_behind pair pairs more some h.1)
+
+here_counts : (b : Bool) (first : ℕ) (later : Option ℕ) → b ≡ true → 1 ≤ first → 1 ≤ unwrap_or (cond b (Some first) later) 0
+here_counts true first later e f = f
+here_counts false first later e f = cc
+
+all_counted : (pairs : List (Outcome × ℕ)) → All (λ count. 1 ≤ count) (values_of pairs) → AreCounted pairs (keys_of pairs)
+all_counted [] h = tt
+all_counted (pair ∷ pairs) h =
+    let some = All-head (λ count. 1 ≤ count) pair.1 (values_of pairs) h in (
+      here_counts (outcome_eq pair.0 pair.0) pair.1 (lookup (outcome_eq pair.0) pairs) ((outcome_eq_decides pair.0 pair.0).1 refl) some,
+      counted_behind pair pairs (keys_of pairs) some (all_counted pairs (All-tail (λ count. 1 ≤ count) pair.1 (values_of pairs) h)),
+    )
+
+-- ---- all together
+
+abbrev AreOutcomes : Program → List Outcome → Type 0
+AreOutcomes p outcomes = AllByRecursion (RunWith p) outcomes
+
+outcomes_of : (p : Program) (runs : List (List ℕ)) (pairs : List (Outcome × ℕ)) (outcomes : List Outcome) → AreRunsOf (load_count p) runs → IsTally (map (outcome_of p) runs) pairs → AreCounted pairs outcomes → AreOutcomes p outcomes
+outcomes_of p runs pairs [] each tally h = tt
+outcomes_of p runs pairs (outcome ∷ more) each tally h =
+    let here = h.0 in
+    let same = tally.counted outcome in
+    (run_with p outcome runs each (omega (arith, here, same)), outcomes_of p runs pairs more each tally h.1)
+
+meant_by : (p : Program) (pairs : List (Outcome × ℕ)) → AreOutcomes p (keys_of pairs) → AreMeant p (signatures pairs)
+meant_by p [] h = tt
+meant_by p ((Inside words, count) ∷ more) h =
+    let run = h.0.0 in
+    ((run, means_by p run words (outside_of p run) h.0.1 refl h.0.2), meant_by p more h.1)
+meant_by p ((Outside node value, count) ∷ more) h = meant_by p more h.1
+
+pub tallied_mean : (p : Program) (runs : List (List ℕ)) (pairs : List (Outcome × ℕ)) → AreRunsOf (load_count p) runs → IsTally (map (outcome_of p) runs) pairs → AreMeant p (signatures pairs)
+tallied_mean p runs pairs each tally = meant_by p pairs (outcomes_of p runs pairs (keys_of pairs) each tally (all_counted pairs tally.counts.positive))
