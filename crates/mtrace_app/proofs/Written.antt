@@ -48,13 +48,21 @@ module _ (held held' : Option (List ℕ)) (status : Status) where
     pub cause_stays : (answer : Answer) → IsWritten answer held held' status → IsCaused model chunk before now (status_of answer) → IsCaused model chunk before now status
     cause_stays (Report text true) w h = elim w [
       | inl s ↦ subst (IsCaused model chunk before now) (sym s.0) h
-      | inr s ↦ subst (IsCaused model chunk before now) (sym s.0) (h.0, h.1, if_some before (λ bytes. (t : List ℕ) × IsReported model chunk bytes t true)
-          (λ bytes. (t : List ℕ) × (b : Bool) × IsReported model chunk bytes t b) (λ bytes r. (r.0, true, r.1)) h.2)
+      | inr s ↦ subst (IsCaused model chunk before now) (sym s.0) (
+        h.0,
+        h.1,
+        if_some before (λ bytes. (t : List ℕ) × IsReported model chunk bytes t true)
+            (λ bytes. (t : List ℕ) × (b : Bool) × IsReported model chunk bytes t b) (λ bytes r. (r.0, true, r.1)) h.2,
+      )
     ]
     cause_stays (Report text false) w h = elim w [
       | inl s ↦ subst (IsCaused model chunk before now) (sym s.0) h
-      | inr s ↦ subst (IsCaused model chunk before now) (sym s.0) (h.0, h.1, if_some before (λ bytes. (t : List ℕ) × IsReported model chunk bytes t false)
-          (λ bytes. (t : List ℕ) × (b : Bool) × IsReported model chunk bytes t b) (λ bytes r. (r.0, false, r.1)) h.2)
+      | inr s ↦ subst (IsCaused model chunk before now) (sym s.0) (
+        h.0,
+        h.1,
+        if_some before (λ bytes. (t : List ℕ) × IsReported model chunk bytes t false)
+            (λ bytes. (t : List ℕ) × (b : Bool) × IsReported model chunk bytes t b) (λ bytes r. (r.0, false, r.1)) h.2,
+      )
     ]
     cause_stays (Refused line) w h = subst (IsCaused model chunk before now) (sym w.0) h
     cause_stays (PastLimits line) w h = subst (IsCaused model chunk before now) (sym w.0) h

@@ -400,12 +400,11 @@ fn repeated(alloc: Global, text: &str, times: u32, end: &str) -> Result<String, 
 fn signatures_of_several_words(rt: HostRuntime) -> Result<(), Fail> {
     let alloc = rt.alloc();
     let test = repeated(alloc, "ld 0\n", 65, "end\n")?;
-    let test = format!(in alloc; "mtest 1\nwords 1\nthread\nst 0\nthread\n{test}")?;
     let run = repeated(alloc, " 1", 65, "\ndone\n")?;
-    let run = format!(in alloc; "run{run}")?;
+    let input = format!(in alloc; "mtest 1\nwords 1\nthread\nst 0\nthread\n{test}run{run}")?;
     let call = Call {
-        test: test.as_str(),
-        runs: run.as_str(),
+        test: "",
+        runs: input.as_str(),
         ..CHECK
     };
     let output = "mtrace 1\nmodel sc\nruns 1\nsig ffffffffffffffff.0000000000000001 count 1 ok\n\
@@ -533,33 +532,49 @@ fn refused_inputs(rt: HostRuntime) -> Result<(), Fail> {
     Ok(())
 }
 
+const REFUSED_WORDS: [&[&str]; 5] = [
+    &[],
+    &["check", "--chunk", "0"],
+    &["verify"],
+    &["check", "--seed", "007"],
+    &["--help"],
+];
+
+const UNBUILT_WORDS: [&[&str]; 3] = [
+    &["run"],
+    &["demo", "--model", "tso"],
+    &["generate", "--seed", "1"],
+];
+
+/// Checks words that are answered before anything is read.
+fn check_words(
+    rt: &(impl Threads + Abort + Sync),
+    alloc: Global,
+    words: &[&str],
+    status: Status,
+    line: &str,
+) -> Result<(), Fail> {
+    let call = Call { words, ..CHECK };
+    let made = make_call(rt, alloc, &call)?;
+    assert_eq!(rt; made.status, status);
+    assert_eq!(rt; made.errs.as_slice(), line.as_bytes());
+    assert!(rt; made.output.is_empty() && !made.left.is_empty());
+    Ok(())
+}
+
 #[test]
 fn words_and_what_is_not_built(rt: HostRuntime) -> Result<(), Fail> {
-    let refused: [&[&str]; 5] = [
-        &[],
-        &["check", "--chunk", "0"],
-        &["verify"],
-        &["check", "--seed", "007"],
-        &["--help"],
-    ];
-    let unbuilt: [&[&str]; 3] = [
-        &["run"],
-        &["demo", "--model", "tso"],
-        &["generate", "--seed", "1"],
-    ];
-    let calls = refused
-        .iter()
-        .map(|words| (*words, Status::Words, "mtrace: words\n"));
-    for (words, status, line) in calls.chain(
-        unbuilt
-            .iter()
-            .map(|words| (*words, Status::NotBuilt, "mtrace: not built\n")),
-    ) {
-        let call = Call { words, ..CHECK };
-        let written = make_call(&rt, rt.alloc(), &call)?;
-        assert_eq!(rt; written.status, status);
-        assert_eq!(rt; written.errs.as_slice(), line.as_bytes());
-        assert!(rt; written.output.is_empty() && !written.left.is_empty());
+    for words in REFUSED_WORDS {
+        check_words(&rt, rt.alloc(), words, Status::Words, "mtrace: words\n")?;
+    }
+    for words in UNBUILT_WORDS {
+        check_words(
+            &rt,
+            rt.alloc(),
+            words,
+            Status::NotBuilt,
+            "mtrace: not built\n",
+        )?;
     }
     // Several signatures in a chunk aren't built, and one alone is.
     let call = Call {

@@ -21,11 +21,10 @@ returns-clause-report g c = λ s settings check.
     (g.S.Source.left c.answer-answer.new.source) c.answer-answer.result c.write_report-status.ensures.written (c.answer-answer.ensures.reports s settings)
 
 pub returns-clause-front : goal.returns-clause-front
-returns-clause-front g c =
-    (
-      c.told.result.now,
-      line_tells (g.K.Sink.held c.args.sink.now) (g.K.Sink.held c.write_report-status.new.sink) c.write_report-status.result (g.S.Source.left c.args.source.now)
+returns-clause-front g c = (
+  c.told.result.now,
+  line_tells (g.K.Sink.held c.args.sink.now) (g.K.Sink.held c.write_report-status.new.sink) c.write_report-status.result (g.S.Source.left c.args.source.now)
       (g.S.Source.left c.answer-answer.new.source) c.answer-answer.result c.told.result.now c.write_report-status.ensures.written c.answer-answer.ensures.no_write_fault c.told.ensures.failed
       c.told.ensures.other c.answer-answer.ensures.line,
-      front_of c.put_all.result (g.E.Sink.held c.args.errs.now) (g.E.Sink.held c.put_all.new.sink) c.told.result.now c.put_all.ensures.whole c.put_all.ensures.front,
-    )
+  front_of c.put_all.result (g.E.Sink.held c.args.errs.now) (g.E.Sink.held c.put_all.new.sink) c.told.result.now c.put_all.ensures.whole c.put_all.ensures.front,
+)

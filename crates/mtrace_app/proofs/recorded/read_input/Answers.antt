@@ -14,8 +14,7 @@ returns-clause-ok c =
     let text : List ℕ = take (length input - read.used) (drop read.used input) in
     let starts = subst (StartsWithTest input read.test) (sym (take_rest input read.used)) c.in_ok-read.ensures.found.starts in
     let ok = c.in_ok-counted.ensures.ok in
-    let same = c.in_ok-plan.ensures in
-    (
+    let same = c.in_ok-plan.ensures in (
       ok.0,
       recorded_by input read.test c.in_ok-plan.plan text (read.lines + 1) ok.0 same starts ok.1,
       subst (λ (q : Program). IsCounted q ok.0 c.in_ok-counted.counted.runs c.in_ok-counted.counted.tally) same ok.2,
@@ -29,5 +28,5 @@ returns-in_err-counted-clause-err c =
     let starts = subst (StartsWithTest input read.test) (sym (take_rest input read.used)) c.in_ok-read.ensures.found.starts in
     let p = err_from_is_err_and c.from_residual-in_err-counted.result c.from_residual-in_err-counted.ensures.1 in
     rw (p.1, p.2) (
-      unread_by input read.test c.in_ok-plan.plan text (read.lines + 1) c.in_err-counted.field-0.0 c.in_ok-plan.ensures (ap (λ (n : ℕ). n + 1) c.in_ok-read.ensures.found.lines) starts
-      c.in_err-counted.ensures.err)
+    unread_by input read.test c.in_ok-plan.plan text (read.lines + 1) c.in_err-counted.field-0.0 c.in_ok-plan.ensures (ap (λ (n : ℕ). n + 1) c.in_ok-read.ensures.found.lines) starts
+    c.in_err-counted.ensures.err)
