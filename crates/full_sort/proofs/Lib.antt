@@ -19,3 +19,6 @@ pub mod EdgeWalks
 pub mod Closures
 pub mod LeastCycles
 mod Strips
+mod Counted
+mod Gained
+mod Without

@@ -61,7 +61,7 @@ abbrev pub one_if : Bool → ℕ
 one_if b = cond b 1 0
 
 -- a sum over the nodes of counts over the list, one element of the list more
-sum-count-cons : {X : Type 0} (p : ℕ → X → Bool) (x : X) (xs : List X) (nodes : List ℕ) → sum_by (λ a. count_by (p a) (x ∷ xs)) nodes ≡ sum_by (λ a. one_if (p a x)) nodes + sum_by (λ a. count_by (p a) xs) nodes
+pub sum-count-cons : {X : Type 0} (p : ℕ → X → Bool) (x : X) (xs : List X) (nodes : List ℕ) → sum_by (λ a. count_by (p a) (x ∷ xs)) nodes ≡ sum_by (λ a. one_if (p a x)) nodes + sum_by (λ a. count_by (p a) xs) nodes
 sum-count-cons p x xs [] = refl
 sum-count-cons p x xs (a ∷ nodes) =
     let whole = sum_by-cons (λ a. count_by (p a) (x ∷ xs)) a nodes in
@@ -72,7 +72,7 @@ sum-count-cons p x xs (a ∷ nodes) =
     omega (arith, whole, left, right, here, rest)
 
 -- at most one of the distinct nodes passes
-one-passes : (p : ℕ → Bool) (c : ℕ) → ((a : ℕ) → p a ≡ true → a ≡ c) → (nodes : List ℕ) → IsOnce nodes → sum_by (λ a. one_if (p a)) nodes ≤ 1
+pub one-passes : (p : ℕ → Bool) (c : ℕ) → ((a : ℕ) → p a ≡ true → a ≡ c) → (nodes : List ℕ) → IsOnce nodes → sum_by (λ a. one_if (p a)) nodes ≤ 1
 one-passes p c only [] once = omega arith
 one-passes p c only (y ∷ ys) once =
     let parts = sum_by-cons (λ a. one_if (p a)) y ys in

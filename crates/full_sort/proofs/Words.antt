@@ -1,9 +1,15 @@
 -- Single bits of a list of words.
 use Rattle.std.proofs.Common.{◌≡◌, ◌≢◌, ◌∙◌, ℕ, ◌+◌, ◌*◌, ◌/◌, ◌%◌, ◌^◌, ◌<◌, List, length, get_or, set, sym, ap, subst, arith, inl, inr, bit_or, bit_and, w64, get_or-set_same, get_or-set_other, length-set, Some}
+use Rattle.std.specs.Int.Bits.{or_zero_r}
+use Rattle.std.proofs.lemmas.List.{set-get_or}
+use Rattle.std.proofs.lemmas.Nat.{and_mask}
 use Rattle.std.specs.Int.{bit_at, bit_not, trailing_zeros}
 use Rattle.std.proofs.lemmas.Bool.{cases_eq, cases_lt}
 use Rattle.std.proofs.lemmas.Nat.Bits.{bit_at_set_same, bit_at_set_other, bit_at_clear_same, bit_at_clear_other, bit_at-zero, bit_at-trailing_zeros}
 use Rattle.full_sort.specs.Bits.{bit_of, ChangesBit, IsFirstBit}
+
+mod_below : (w : ℕ) → w < 2 ^ 64 → w % 2 ^ 64 ≡ w
+mod_below w lt = omega (arith, lt)
 
 -- a number by its word and its place there
 pub word-is : (q r : ℕ) → r < 64 → (64 * q + r) / 64 ≡ q
@@ -41,6 +47,13 @@ changes-clear words n inside = record {
   others = other-written words n (bit_and (get_or words (n / 64) 0) (bit_not w64 (1 * 2 ^ (n % 64) % 2 ^ 64))) inside (λ i lt other. bit_at_clear_other w64 (get_or words (n / 64) 0) (n % 64) (omega arith) i lt other);
   words = λ j apart. get_or-set_other words (n / 64) j (bit_and (get_or words (n / 64) 0) (bit_not w64 (1 * 2 ^ (n % 64) % 2 ^ 64))) 0 apart;
 }
+
+-- a word that is written as it was
+pub kept-set : (words : List ℕ) (j : ℕ) → set words j (bit_or (get_or words j 0) 0) ≡ words
+kept-set words j = ap (set words j) (or_zero_r (get_or words j 0)) ∙ set-get_or words j 0
+
+pub kept-clear : (words : List ℕ) (j : ℕ) → get_or words j 0 < 2 ^ 64 → set words j (bit_and (get_or words j 0) (bit_not w64 0)) ≡ words
+kept-clear words j fits = ap (set words j) (and_mask (get_or words j 0) 64 ∙ (let w : ℕ = get_or words j 0 in mod_below w fits)) ∙ set-get_or words j 0
 
 -- the lowest bit of the first word that isn't 0
 pub lowest-at : (words : List ℕ) (i : ℕ) → get_or words i 0 < 2 ^ 64 → 0 < get_or words i 0 → bit_of words (64 * i + trailing_zeros w64 (get_or words i 0)) ≡ 1

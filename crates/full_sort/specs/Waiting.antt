@@ -1,5 +1,5 @@
 -- What the arrays of a sort hold: how many edges each node waits for, and which nodes are marked as not placed yet.
-use Rattle.std.specs.Prelude.{◌≡◌, ◌≢◌, ◌↔◌, ◌⊎◌, ◌==◌, ◌&&◌, ℕ, ◌<◌, List, Bool, true, false, Contains, count_by, filter, sum_by, length, slice_index, slice_index_or, take}
+use Rattle.std.specs.Prelude.{◌≡◌, ◌≢◌, ◌↔◌, ◌⊎◌, ◌==◌, ◌&&◌, ℕ, ◌<◌, List, Bool, true, false, Contains, count_by, filter, sum_by, length, slice_index, slice_index_or, slice_set, take, [], ◌∷◌}
 use Rattle.orders.specs.Choices.{IsReady}
 use Rattle.full_sort.specs.Bits.{bit_of}
 
@@ -14,6 +14,11 @@ count_into edges nodes b = sum_by (λ a. count_between edges a b) nodes
 -- whether the node is marked
 abbrev pub is_marked : List Bool → ℕ → Bool
 is_marked marks node = slice_index_or marks node false
+
+-- the marks, but for those of the nodes of the list
+abbrev pub without_marks : List Bool → List ℕ → List Bool
+without_marks marks [] = marks
+without_marks marks (x ∷ nodes) = without_marks (slice_set marks x false) nodes
 
 -- the marked nodes of the list
 abbrev pub marked_of : List Bool → List ℕ → List ℕ

@@ -1,21 +1,26 @@
 //! Single bits of a slice of words, and of one that a second slice sums up.
 ghost use Rattle.std.specs.Prelude.{◌≡◌, ◌<◌, ◌≤◌, ◌/◌, ◌*◌, ◌^◌, length};
+ghost use Rattle.std.specs.Bool.{OnTrue, OnFalse};
 ghost use Rattle.full_sort.specs.Bits.{bit_of, ChangesBit, IsFirstBit, IsSummed};
 
-/// Sets the bit of the number.
-pub fn set_bit(words: &mut [u64], n: usize)
+/// Sets the bit of the number where the condition holds. Both ways take the same steps, since which one comes is hard to foresee.
+pub fn set_bit_if(words: &mut [u64], n: usize, condition: bool)
     requires { n / 64 < length words.old }
-    ensures { ChangesBit words.old words.new n 1 }
+    ensures set { OnTrue condition (ChangesBit words.old words.new n 1) }
+    ensures kept { OnFalse condition (words.new ≡ words.old) }
 {
-    words[n / 64] |= 1 << (n % 64);
+    let bit = if condition { 1 << (n % 64) } else { 0 };
+    words[n / 64] |= bit;
 }
 
-/// Clears the bit of the number.
-pub fn clear_bit(words: &mut [u64], n: usize)
+/// Clears the bit of the number where the condition holds, in the same steps both ways.
+pub fn clear_bit_if(words: &mut [u64], n: usize, condition: bool)
     requires { n / 64 < length words.old }
-    ensures { ChangesBit words.old words.new n 0 }
+    ensures cleared { OnTrue condition (ChangesBit words.old words.new n 0) }
+    ensures kept { OnFalse condition (words.new ≡ words.old) }
 {
-    words[n / 64] &= !(1 << (n % 64));
+    let bit = if condition { 1 << (n % 64) } else { 0 };
+    words[n / 64] &= !bit;
 }
 
 /// The least number whose bit is set.
@@ -31,15 +36,16 @@ pub fn first_bit(words: &[u64]) -> Option<usize>
     None
 }
 
-/// Sets the bit of a node, and that of its word in the summary.
-pub fn set_both(low: &mut [u64], high: &mut [u64], node: u32)
+/// Sets the bit of a node, and that of its word in the summary, where the condition holds.
+pub fn set_both_if(low: &mut [u64], high: &mut [u64], node: u32, condition: bool)
     requires summed { IsSummed low.old high.old }
     requires room { node < 64 * length low.old }
     ensures summed { IsSummed low.new high.new }
-    ensures change { ChangesBit low.old low.new node 1 }
+    ensures set { OnTrue condition (ChangesBit low.old low.new node 1) }
+    ensures kept { OnFalse condition (low.new ≡ low.old) }
 {
-    set_bit(low, node as usize);
-    set_bit(high, node as usize / 64);
+    set_bit_if(low, node as usize, condition);
+    set_bit_if(high, node as usize / 64, condition);
 }
 
 /// Clears the bit of a node of the set, and that of its word in the summary where that is then 0.
@@ -50,10 +56,8 @@ pub fn clear_both(low: &mut [u64], high: &mut [u64], node: u32)
     ensures change { ChangesBit low.old low.new node 0 }
 {
     let word = node as usize / 64;
-    clear_bit(low, node as usize);
-    if low[word] == 0 {
-        clear_bit(high, word);
-    }
+    clear_bit_if(low, node as usize, true);
+    clear_bit_if(high, word, low[word] == 0);
 }
 
 /// The least node of the set.

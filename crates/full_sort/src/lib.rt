@@ -9,6 +9,7 @@ mod reached;
 mod shortest;
 mod sorting;
 mod waiting;
+mod whole;
 mod window;
 
 pub use sorting::{

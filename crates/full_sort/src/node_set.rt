@@ -1,8 +1,9 @@
 //! A set of nodes whose least is found at once, as bits in two levels.
 ghost use Rattle.std.specs.Prelude.{◌≡◌, ℕ, ◌*◌, ◌<◌, ◌≤◌, List, length, IfOk, None};
+ghost use Rattle.std.specs.Bool.{OnTrue, OnFalse};
 ghost use Rattle.full_sort.specs.Bits.{ChangesBit, IsFirstBit, TakesLeast};
 
-use crate::bits::{clear_both, least_of, set_both};
+use crate::bits::{clear_both, least_of, set_both_if};
 use std::alloc::{AllocError, Global};
 use std::marker::Model;
 
@@ -41,7 +42,16 @@ impl NodeSet {
         requires { node < 64 * length self.old }
         ensures { ChangesBit self.old self.new node 1 }
     {
-        set_both(&mut self.low, &mut self.high, node);
+        self.insert_if(node, true);
+    }
+
+    /// Takes the node into the set where the condition holds.
+    pub fn insert_if(&mut self, node: u32, condition: bool)
+        requires { node < 64 * length self.old }
+        ensures taken { OnTrue condition (ChangesBit self.old self.new node 1) }
+        ensures kept { OnFalse condition (self.new ≡ self.old) }
+    {
+        set_both_if(&mut self.low, &mut self.high, node, condition);
     }
 
     /// Takes the least node out of the set.

@@ -9,6 +9,7 @@ use crate::candidates::note_candidates;
 use crate::node_set::NodeSet;
 use crate::reached::least_reaching_itself;
 use crate::shortest::shortest_cycle;
+use crate::whole::order_all_into;
 use crate::window::order_into;
 use digraph::{Graph, Nodes, Pairs, Steps};
 use std::alloc::{AllocError, Global};
@@ -82,7 +83,7 @@ pub fn least_order_into<L: Ledger>(
     ensures bound { steps.new ≤ steps.old + 3 * length graph.now.edges }
 {
     let _edges = graph.edges();
-    order_into(
+    order_all_into(
         graph,
         &scratch.all,
         &mut scratch.waiting,

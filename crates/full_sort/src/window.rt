@@ -95,7 +95,7 @@ pub fn place_window<L: Ledger>(
 }
 
 /// Takes the marks away that are left in the window, and the counts of the edges from there.
-fn clean_up<L: Ledger>(
+pub fn clean_up<L: Ledger>(
     graph: &Graph,
     window: &[u32],
     waiting: &mut [u32],
