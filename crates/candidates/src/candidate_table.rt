@@ -89,6 +89,16 @@ impl Candidates {
         self.loads[rank as usize].find(value, store)
     }
 
+    /// The place of a candidate's value among the candidates.
+    pub fn place(&self, rank: u32, value: u32) -> u32
+        requires rank { rank < load_count self.now }
+        requires candidate { Contains (candidates_at self.now rank) value }
+        ensures { position (λ candidate. candidate == value) (candidates_at self.now rank) ≡ Some result }
+    {
+        let store = self.stores.rows[value as usize];
+        self.loads[rank as usize].place(value, store)
+    }
+
     /// Whether each load of the run gives a candidate's value. Which candidate it gives is up to chance, so no step branches on it.
     fn is_inside(&self, run: &[u32]) -> bool
         requires { length run.now ≡ load_count self.now }

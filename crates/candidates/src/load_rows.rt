@@ -24,31 +24,23 @@ pub(crate) struct LoadRow {
 }
 
 impl LoadRow {
-    /// Whether a value, the row of which is that, is a candidate's.
+    /// Whether a value, the row of which is that, is a candidate's. Which candidate a load gives is up to chance, so no step branches on it.
     pub fn has(&self, value: u32, store: StoreRow) -> bool
         ensures { result ≡ has_value self.now value store }
     {
-        let is_other = store.place < self.own_from || self.own_to <= store.place;
-        value == self.base || store.word == self.word && is_other
+        let is_other = (store.place < self.own_from) | (self.own_to <= store.place);
+        (value == self.base) | ((store.word == self.word) & is_other)
     }
 
     /// The place of a candidate's value. Which candidate a load gives is up to chance, so no step branches on it.
-    fn place(&self, value: u32, store: StoreRow) -> u32
+    pub fn place(&self, value: u32, store: StoreRow) -> u32
         requires block { self.now.own_from ≤ self.now.own_to }
         requires room { store.place + 1 < 2 ^ 32 }
         requires has { IsTrue (has_value self.now value store) }
         ensures { result ≡ place_of self.now value store }
     {
-        let own = if store.place < self.own_from {
-            0
-        } else {
-            self.own_to - self.own_from
-        };
-        if value == self.base {
-            0
-        } else {
-            store.place - own + 1
-        }
+        let own = u32::from(self.own_from <= store.place) * (self.own_to - self.own_from);
+        u32::from(value != self.base) * (store.place.saturating_sub(own) + 1)
     }
 
     /// The place of a value, if it is a candidate's.

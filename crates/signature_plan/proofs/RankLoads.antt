@@ -1,7 +1,6 @@
 -- The loads of a range of ranks, one by one.
-use Rattle.std.proofs.Common.{◌≡◌, ◌∙◌, ℕ, zero, suc, ◌+◌, ◌-◌, ◌*◌, ◌^◌, ◌<◌, ◌≤◌, List, [], ◌∷◌, take, drop, Contains, true, Option, Some, ap, arith, sym, subst, inl, inr, add-one}
+use Rattle.std.proofs.Common.{◌≡◌, ◌∙◌, ℕ, zero, suc, ◌+◌, ◌-◌, ◌*◌, ◌^◌, ◌<◌, ◌≤◌, List, [], ◌∷◌, take, drop, Contains, Option, Some, ap, arith, sym, subst, inl, inr, add-one}
 use Rattle.std.specs.Prelude.{◌==◌, position, unwrap_or, slice_index}
-use Rattle.std.specs.Option.{is_some}
 use Rattle.std.proofs.Math.Nat.{mul-le-mul}
 use Rattle.std.proofs.Math.Seq.{drop-cons}
 use Rattle.orders.proofs.Members.{Contains-cons_cases, Contains-nil}
@@ -14,7 +13,7 @@ use Rattle.candidates.specs.ByRank.{candidates_at, load_at}
 use Rattle.candidates.proofs.RunLemmas.{inside_gives, value_read-at}
 use Rattle.signature_plan.specs.Words.{loads_between, mixed_radix}
 use Rattle.signature_plan.proofs.Radix.{mixed_radix-lt}
-use Rattle.signature_plan.proofs.Reading.{place_within, position-contains}
+use Rattle.signature_plan.proofs.Reading.{place_within}
 
 module _ (p : Program) where
   pub between_none : (rank : ℕ) → loads_between p rank rank ≡ []
@@ -51,12 +50,9 @@ module _ (p : Program) where
       ]
 
 module _ (p : Program) (run : List ℕ) (inside : IsInside p run) where
-  rank_contains : (rank : ℕ) → rank < load_count p → Contains (candidates_at p rank) (slice_index run rank)
+  -- the value of each load is a candidate's
+  pub rank_contains : (rank : ℕ) → rank < load_count p → Contains (candidates_at p rank) (slice_index run rank)
   rank_contains rank lt = (inside_gives p run inside.none_outside).each rank lt
-
-  -- the value of each load is found
-  pub rank_found : (rank : ℕ) → rank < load_count p → is_some (position (λ candidate. candidate == slice_index run rank) (candidates_at p rank)) ≡ true
-  rank_found rank lt = ap is_some (position-contains (candidates_at p rank) (slice_index run rank) (rank_contains rank lt))
 
   place_at-rank : (rank : ℕ) → rank < load_count p → place p run (load_at p rank) ≡ unwrap_or (position (λ candidate. candidate == slice_index run rank) (candidates_at p rank)) 0
   place_at-rank rank lt = ap (λ (v : ℕ). unwrap_or (position (λ candidate. candidate == v) (candidates_at p rank)) 0) (value_read-at p run rank lt)

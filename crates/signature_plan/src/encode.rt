@@ -27,7 +27,7 @@ impl Plan {
     {
         let mut word = 0;
         for rank in (first..end).rev() {
-            let place = self.candidates.index(rank, run[rank as usize]).unwrap();
+            let place = self.candidates.place(rank, run[rank as usize]);
             word = word * u64::from(self.candidates.count(rank)) + u64::from(place);
         }
         word
