@@ -1,16 +1,17 @@
 -- What counting the outcomes of a list does to a tally.
-use Rattle.std.proofs.Common.{◌≡◌, ◌∙◌, ℕ, zero, suc, ◌+◌, ◌-◌, ◌<◌, List, [], ◌∷◌, ◌++◌, length, take, drop, map, replicate, subst, ◌^◌, length-append, length-take-le, Bool, true, false, cond, refl, sym, ap, arith, add-zero}
-use Rattle.std.specs.Prelude.{IsPermutation}
-use Rattle.std.proofs.lemmas.List.{length-map, map-append, take-append-drop}
-use Rattle.std.proofs.lemmas.List.Sorted.{IsPermutation-map, sum_by-IsPermutation}
-use Rattle.std.proofs.lemmas.List.Sums.{sum_by-append}
+use Rattle.std.proofs.Common.{◌≡◌, ◌∙◌, ℕ, zero, suc, ◌+◌, ◌-◌, ◌<◌, ◌≤◌, List, [], ◌∷◌, ◌++◌, length, take, map, replicate, subst, ◌^◌, length-append, Bool, true, false, cond, refl, sym, ap, arith, add-zero}
+use Rattle.std.specs.Prelude.{IsPermutation, sum_by}
+use Rattle.std.proofs.lemmas.List.{length-map, map-append}
+use Rattle.std.proofs.lemmas.List.Sorted.{IsPermutation-map, length_permutation, sum_by-IsPermutation}
+use Rattle.std.proofs.lemmas.List.Sums.{sum_by-append, sum_by-cons}
 use Rattle.tally.specs.declared.outcome.Outcome.{Outcome}
 use Rattle.tally.specs.declared.outcome.Outcome.TheVariants.{Inside}
 use Rattle.tally.specs.Outcomes.{outcome_eq}
-use Rattle.tally.specs.Counting.{CanCount, EndsAlike, with_rows}
+use Rattle.tally.specs.Counting.{CanCount, EndsWith, all_rows, with_rows}
 use Rattle.tally.specs.Tallies.{IsCounts, count_of, occurrences, total_of, with_each, with_more, with_one_more}
 use Rattle.tally.proofs.Growing.{IsCounts-more, count_of-more, total-more}
 use Rattle.tally.proofs.OneTally.{one_from_counts}
+use Rattle.tally.proofs.PlacedRows.{all_rows-last, length-all_rows-last, entries-length}
 
 pub IsCounts-each : (pairs : List (Outcome × ℕ)) (outcomes : List Outcome) → IsCounts pairs → IsCounts (with_each pairs outcomes)
 IsCounts-each pairs [] h = h
@@ -76,31 +77,60 @@ occurrences-replicate (suc times) row other = occurrences-cons (Inside row) (map
     by true = omega arith
     by false = refl
 
--- the equal rows at the end may be counted together
-pub each-group : (pairs : List (Outcome × ℕ)) (rows : List (List ℕ)) (row : List ℕ) (first : ℕ) → IsCounts pairs → EndsAlike rows row first
-    → with_each (with_more pairs (Inside row) (length rows - first)) (map Inside (take first rows)) ≡ with_each pairs (map Inside rows)
-each-group pairs rows row first h group =
-    let times : ℕ = length rows - first in
-    let grown = IsCounts-more pairs (with_more pairs (Inside row) times) (Inside row) times h (omega (arith, group.within)) refl in
-    same_each (with_more pairs (Inside row) times) pairs (map Inside (take first rows)) (map Inside rows) grown h
+-- how often an outcome stands among the waiting rows
+entries-occur : (entries : List (List ℕ × ℕ)) (other : Outcome) → occurrences (map Inside (all_rows entries)) other ≡ sum_by (λ entry. cond (outcome_eq other (Inside entry.0)) entry.1 0) entries
+entries-occur [] other = refl
+entries-occur (entry ∷ entries) other =
+    let parts = ap (λ os. occurrences os other) (map-append Inside (replicate entry.1 entry.0) (all_rows entries)) in
+    let sums = sum_by-append (λ x. cond (outcome_eq other x) 1 0) (map Inside (replicate entry.1 entry.0)) (map Inside (all_rows entries)) in
+    let here = occurrences-replicate entry.1 entry.0 other in
+    let rest = entries-occur entries other in
+    let all = sum_by-cons (λ (e : List ℕ × ℕ). cond (outcome_eq other (Inside e.0)) e.1 0) entry entries in
+    omega (arith, parts, sums, here, rest, all)
+
+-- the order in which they are kept is nothing
+pub CanCount-permutation : (pairs : List (Outcome × ℕ)) (entries entries' : List (List ℕ × ℕ)) → CanCount pairs (all_rows entries) → IsPermutation entries entries'
+    → CanCount pairs (all_rows entries') × (with_rows pairs (all_rows entries') ≡ with_rows pairs (all_rows entries))
+CanCount-permutation pairs entries entries' can p =
+    let same_length : length (all_rows entries') ≡ length (all_rows entries) = entries-length entries' ∙ sum_by-IsPermutation (λ entry. entry.1) entries entries' p ∙ sym (entries-length entries) in (
+      record { counts = can.counts; room = omega (arith, same_length, can.room) },
+      same_each pairs pairs (map Inside (all_rows entries')) (map Inside (all_rows entries)) can.counts can.counts
+          (λ other. ap (λ n. count_of pairs other + n) (entries-occur entries' other ∙ sum_by-IsPermutation (λ entry. cond (outcome_eq other (Inside entry.0)) entry.1 0) entries entries' p ∙ sym (entries-occur entries other))),
+    )
+
+-- equal rows at the end may be counted together
+pub each-group : (pairs : List (Outcome × ℕ)) (left : List (List ℕ)) (row : List ℕ) (times : ℕ) → IsCounts pairs → 1 ≤ times
+    → with_each (with_more pairs (Inside row) times) (map Inside left) ≡ with_each pairs (map Inside (left ++ replicate times row))
+each-group pairs left row times h some =
+    let grown = IsCounts-more pairs (with_more pairs (Inside row) times) (Inside row) times h (omega (arith, some)) refl in
+    same_each (with_more pairs (Inside row) times) pairs (map Inside left) (map Inside (left ++ replicate times row)) grown h
     (λ other.
     let more = count_of-more pairs (Inside row) times other in
-    let split = ap (λ rs. occurrences (map Inside rs) other) (sym (take-append-drop first rows)) ∙ ap (λ os. occurrences os other) (map-append Inside (take first rows) (drop first rows)) in
-    let parts = sum_by-append (λ x. cond (outcome_eq other x) 1 0) (map Inside (take first rows)) (map Inside (drop first rows)) in
-    let last = ap (λ rs. occurrences (map Inside rs) other) group.alike ∙ occurrences-replicate times row other in
+    let split = ap (λ os. occurrences os other) (map-append Inside left (replicate times row)) in
+    let parts = sum_by-append (λ x. cond (outcome_eq other x) 1 0) (map Inside left) (map Inside (replicate times row)) in
+    let last = occurrences-replicate times row other in
     omega (arith, more, split, parts, last))
 
 pub total-rows : (pairs : List (Outcome × ℕ)) (rows : List (List ℕ)) → IsCounts pairs → total_of (with_rows pairs rows) ≡ total_of pairs + length rows
 total-rows pairs rows h = total-each pairs (map Inside rows) h ∙ ap (λ n. total_of pairs + n) (length-map rows Inside)
 
--- once the equal rows at the end are counted, as many can be counted as before
-pub CanCount-group : (pairs new : List (Outcome × ℕ)) (rows left : List (List ℕ)) (row : List ℕ) (first times : ℕ) → CanCount pairs rows → EndsAlike rows row first
-    → times ≡ length rows - first → new ≡ with_more pairs (Inside row) times → IsCounts new → left ≡ take first rows → (CanCount new left) × (with_rows new left ≡ with_rows pairs rows)
-CanCount-group pairs new rows left row first times can group times_are new_is counts left_is =
+-- once the last row is counted, as many can be counted as before
+pub CanCount-last : (pairs new : List (Outcome × ℕ)) (entries left : List (List ℕ × ℕ)) (row : List ℕ) (times : ℕ) → CanCount pairs (all_rows entries) → EndsWith entries row times
+    → new ≡ with_more pairs (Inside row) times → IsCounts new → left ≡ take (length entries - 1) entries → CanCount new (all_rows left) × (with_rows new (all_rows left) ≡ with_rows pairs (all_rows entries))
+CanCount-last pairs new entries left row times can last new_is counts left_is =
+    let whole : entries ≡ left ++ (row, times) ∷ [] = last.whole ∙ ap (λ es. es ++ (row, times) ∷ []) (sym left_is) in
+    let rows : all_rows entries ≡ all_rows left ++ replicate times row = ap all_rows whole ∙ all_rows-last left row times in
     let total = total-more pairs new (Inside row) times can.counts new_is in
-    let kept : length left ≡ first = ap length left_is ∙ length-take-le first rows (omega (arith, group.within)) in
-    let pushed = ap (λ ps. with_rows ps left) (new_is ∙ ap (with_more pairs (Inside row)) times_are) ∙ ap (with_rows (with_more pairs (Inside row) (length rows - first))) left_is in
-    (record { counts = counts; room = omega (arith, total, kept, group.within, can.room) }, pushed ∙ each-group pairs rows row first can.counts group)
+    let long = ap (λ es. length (all_rows es)) whole ∙ length-all_rows-last left row times in (
+      record { counts = counts; room = omega (arith, total, long, can.room) },
+      ap (λ ps. with_rows ps (all_rows left)) new_is ∙ each-group pairs (all_rows left) row times can.counts last.some ∙ ap (with_rows pairs) (sym rows),
+    )
+
+-- there is room for the last row
+pub last-room : (pairs : List (Outcome × ℕ)) (entries : List (List ℕ × ℕ)) (row : List ℕ) (times : ℕ) → CanCount pairs (all_rows entries) → EndsWith entries row times → total_of pairs + times < 2 ^ 64
+last-room pairs entries row times can last =
+    let long = ap (λ es. length (all_rows es)) last.whole ∙ length-all_rows-last (take (length entries - 1) entries) row times in
+    omega (arith, long, can.room)
 
 -- The pairs and the waiting rows stand for `before`.
 module _ (before pairs : List (Outcome × ℕ)) (rows : List (List ℕ)) (can : CanCount pairs rows) (stands : with_rows pairs rows ≡ before) where
@@ -110,11 +140,15 @@ module _ (before pairs : List (Outcome × ℕ)) (rows : List (List ℕ)) (can : 
   pub total-before : total_of before ≡ total_of pairs + length rows
   total-before = ap total_of (sym stands) ∙ total-rows pairs rows can.counts
 
-  pub row-added : (rows' : List (List ℕ)) (row : List ℕ) → rows' ≡ rows ++ row ∷ [] → with_rows pairs rows' ≡ with_one_more before (Inside row)
-  row-added rows' row e = ap (with_rows pairs) e ∙ each-push pairs rows row ∙ ap (λ ps. with_one_more ps (Inside row)) stands
+  pub row-added : (rows' : List (List ℕ)) (row : List ℕ) → IsPermutation (rows ++ row ∷ []) rows' → with_rows pairs rows' ≡ with_one_more before (Inside row)
+  row-added rows' row p = each-permutation pairs (rows ++ row ∷ []) rows' can.counts p ∙ each-push pairs rows row ∙ ap (λ ps. with_one_more ps (Inside row)) stands
 
-  pub CanCount-row : (rows' : List (List ℕ)) (row : List ℕ) → rows' ≡ rows ++ row ∷ [] → total_of before < 2 ^ 64 - 1 → CanCount pairs rows'
-  CanCount-row rows' row e room = record { counts = can.counts; room = omega (arith, total-before, room, ap length e, length-append rows (row ∷ [])) }
+  pub CanCount-row : (rows' : List (List ℕ)) (row : List ℕ) → IsPermutation (rows ++ row ∷ []) rows' → total_of before < 2 ^ 64 - 1 → CanCount pairs rows'
+  CanCount-row rows' row p room = record { counts = can.counts; room = omega (arith, total-before, room, length_permutation (rows ++ row ∷ []) rows' p, length-append rows (row ∷ [])) }
+
+  -- there is room for one row more
+  pub row-room : total_of before < 2 ^ 64 - 1 → length rows + 1 < 2 ^ 64
+  row-room room = omega (arith, total-before, room)
 
   pub outcome-added : (new : List (Outcome × ℕ)) (outcome : Outcome) → new ≡ with_one_more pairs outcome → with_rows new rows ≡ with_one_more before outcome
   outcome-added new outcome e = ap (λ ps. with_rows ps rows) e ∙ each-before pairs outcome (map Inside rows) can.counts ∙ ap (λ ps. with_one_more ps outcome) stands

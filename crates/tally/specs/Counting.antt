@@ -1,5 +1,5 @@
 -- What a counter of outcomes stands for.
-use Rattle.std.specs.Prelude.{◌≡◌, ℕ, ◌+◌, ◌-◌, ◌^◌, ◌<◌, List, length, drop, map, replicate}
+use Rattle.std.specs.Prelude.{◌≡◌, ℕ, ◌+◌, ◌-◌, ◌^◌, ◌<◌, ◌≤◌, List, [], ◌∷◌, ◌++◌, length, take, map, replicate}
 use Rattle.tally.specs.declared.outcome.Outcome.{Outcome}
 use Rattle.tally.specs.declared.outcome.Outcome.TheVariants.{Inside}
 use Rattle.tally.specs.Tallies.{IsCounts, IsTally, total_of, with_each}
@@ -13,15 +13,20 @@ pub record Counting : Type 0 where
 abbrev pub HasCounted : List Outcome → Counting → Type 0
 HasCounted outcomes counter = IsTally outcomes counter.pairs
 
--- rows of words that wait, all of one width
+-- rows of words that wait, all of one width, each with how often it waits
 pub record Waiting : Type 0 where
   pub width : ℕ
-  pub rows : List (List ℕ)
+  pub rows : List (List ℕ × ℕ)
 
--- from this place on, all rows are this one, and there is one
-pub record EndsAlike (rows : List (List ℕ)) (row : List ℕ) (first : ℕ) : Type 0 where
-  pub within : first < length rows
-  pub alike : drop first rows ≡ replicate (length rows - first) row
+-- each row as often as it waits
+abbrev pub all_rows : List (List ℕ × ℕ) → List (List ℕ)
+all_rows [] = []
+all_rows (entry ∷ entries) = replicate entry.1 entry.0 ++ all_rows entries
+
+-- the last row is this one, and it waits so often, once at least
+pub record EndsWith (entries : List (List ℕ × ℕ)) (row : List ℕ) (times : ℕ) : Type 0 where
+  pub whole : entries ≡ take (length entries - 1) entries ++ (row, times) ∷ []
+  pub some : 1 ≤ times
 
 -- the pairs, once the waiting rows are counted too
 abbrev pub with_rows : List (Outcome × ℕ) → List (List ℕ) → List (Outcome × ℕ)

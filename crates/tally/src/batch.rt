@@ -1,43 +1,48 @@
-//! Rows of words that wait to be counted.
-ghost use Rattle.std.specs.Prelude.{◌≡◌, ℕ, ◌+◌, ◌<◌, ◌≤◌, ◌↔◌, List, [], ◌∷◌, ◌++◌, length, take, drop, IsNone, IsPermutation, IfSome, OnOk, OnErr, slice_index_or};
-ghost use Rattle.tally.specs.Counting.{EndsAlike};
+//! Rows of words that wait to be counted, equal ones together as far as guesses lead.
+ghost use Rattle.std.specs.Prelude.{◌≡◌, ℕ, ◌+◌, ◌-◌, ◌^◌, ◌<◌, ◌≤◌, ◌↔◌, List, [], ◌∷◌, ◌++◌, length, take, drop, IsNone, IsPermutation, IfOk, IfSome, OnOk, OnErr, slice_index_or};
+ghost use Rattle.tally.specs.Counting.{EndsWith, all_rows};
 
+use crate::guesses::{Guesses, WAYS, hash};
 use std::alloc::{AllocError, Global};
 use std::cmp::Ordering;
 use std::marker::Model;
 
-/// So many rows fill a batch.
+/// So many places fill a batch.
 const ROWS: usize = 1 << 16;
 
 /// So many words fill a batch, however few rows they make.
 const WORDS: usize = 1 << 18;
 
-/// Where a row begins among the words, and its first word, or 0 where it has none.
+/// Where a row begins among the words, its first word, or 0 where it has none, and how often it waits.
 #[derive(Clone, Copy)]
 pub(crate) struct Place {
     first_word: u64,
     start: usize,
+    times: u64,
 }
 
-/// A list of rows of `width` words each. Its memory serves again once it was emptied.
+/// A list of rows of `width` words each, and how often each waits. Its memory serves again once it was emptied.
 #[derive(Drop)]
 pub(crate) struct Batch {
     width: usize,
     words: Vec<u64>,
     places: Vec<Place>,
+    /// Where rows stand among the places.
+    guesses: Guesses,
+    /// How many rows wait in all.
+    len: u64,
 }
 
 impl Model for Batch {
-    ghost use Rattle.std.specs.Prelude.{◌+◌, ◌≤◌, All, length};
     ghost use Rattle.tally.specs.Counting.{Waiting};
 
     ghost Value = { Waiting };
 
-    ghost use Rattle.tally.specs.Rows.{rows_at};
+    ghost use Rattle.tally.specs.Rows.{Holds, rows_at};
 
     ghost view = { λ b. record { width = b.width; rows = rows_at b.words.items b.width b.places.items } };
 
-    ghost invariant = { λ b. All (λ place. place.start + b.width ≤ length b.words.items) b.places.items };
+    ghost invariant = { λ b. Holds b.words.items b.width b.places.items b.len };
 }
 
 impl Batch {
@@ -49,6 +54,8 @@ impl Batch {
             width,
             words: Vec::new(alloc),
             places: Vec::new(alloc),
+            guesses: Guesses::new(alloc),
+            len: 0,
         }
     }
 
@@ -57,21 +64,73 @@ impl Batch {
         self.places.len() >= ROWS || self.words.len() >= WORDS
     }
 
-    /// Puts a row at the end. `Err` means want of memory, and the rows stay.
+    /// Lets a row wait. `Err` means want of memory, and the rows stay.
     pub(crate) fn push(&mut self, row: &[u64]) -> Result<(), AllocError>
-        requires { length row.now ≡ self.old.width }
+        requires width { length row.now ≡ self.old.width }
+        requires room { length (all_rows self.old.rows) + 1 < 2 ^ 64 }
         ensures width { self.new.width ≡ self.old.width }
-        ensures pushed { OnOk result (self.new.rows ≡ self.old.rows ++ row.now ∷ []) }
+        ensures pushed { OnOk result (IsPermutation (all_rows self.old.rows ++ row.now ∷ []) (all_rows self.new.rows)) }
+        ensures refused { OnErr result (self.new ≡ self.old) }
+    {
+        let hash = hash(row);
+        match self.find(row, hash) {
+            Ok(place) => self.raise(place),
+            Err(way) => {
+                self.guesses.set(hash, way, self.places.len())?;
+                self.push_new(row)?;
+            }
+        }
+        Ok(())
+    }
+
+    /// Where the row stands, if a guess leads there, and otherwise the way on which it is guessed from now on.
+    fn find(&self, row: &[u64], hash: u64) -> Result<usize, usize>
+        ensures { IfOk result (λ place. (place < length self.now.rows) × ((slice_index_or self.now.rows place (row.now, 0)).0 ≡ row.now)) }
+    {
+        'ways: for way in 0..WAYS {
+            let Some(place) = self.guesses.at(hash, way) else {
+                return Err(way);
+            };
+            if place < self.places.len() && self.row(place) == row {
+                return Ok(place);
+            }
+        }
+        Err(0)
+    }
+
+    /// Lets the row at a place wait once more.
+    fn raise(&mut self, place: usize)
+        requires within { place < length self.old.rows }
+        requires room { length (all_rows self.old.rows) + 1 < 2 ^ 64 }
+        ensures width { self.new.width ≡ self.old.width }
+        ensures raised { (row : List ℕ) → (slice_index_or self.old.rows place (row, 0)).0 ≡ row
+            → IsPermutation (all_rows self.old.rows ++ row ∷ []) (all_rows self.new.rows) }
+    {
+        self.places[place].times += 1;
+        self.len += 1;
+    }
+
+    /// Puts a row at the end, which waits once. `Err` means want of memory, and the rows stay.
+    fn push_new(&mut self, row: &[u64]) -> Result<(), AllocError>
+        requires width { length row.now ≡ self.old.width }
+        requires room { length (all_rows self.old.rows) + 1 < 2 ^ 64 }
+        ensures width { self.new.width ≡ self.old.width }
+        ensures pushed { OnOk result (all_rows self.new.rows ≡ all_rows self.old.rows ++ row.now ∷ []) }
         ensures refused { OnErr result (self.new ≡ self.old) }
     {
         let start = self.words.len();
         self.words.extend_from_slice(row)?;
         let first_word = row.first().copied().unwrap_or(0);
-        self.places.push(Place { first_word, start })?;
+        self.places.push(Place {
+            first_word,
+            start,
+            times: 1,
+        })?;
+        self.len += 1;
         Ok(())
     }
 
-    /// Puts equal rows beside each other, in time of n log n comparisons.
+    /// Puts the rows in order, in time of n log n comparisons.
     pub(crate) fn sort(&mut self)
         ensures width { self.new.width ≡ self.old.width }
         ensures permutation { IsPermutation self.old.rows self.new.rows }
@@ -82,17 +141,13 @@ impl Batch {
             .sort_unstable_by(|left, right| compare(words, width, left, right));
     }
 
-    /// The last row, and the first place from which on all rows are equal to it. None exactly where there is no row.
-    pub(crate) fn last_group(&self) -> Option<(&[u64], usize)>
+    /// The last row, and how often it waits. None exactly where there is no row.
+    pub(crate) fn last(&self) -> Option<(&[u64], u64)>
         ensures empty { IsNone result ↔ (self.now.rows ≡ []) }
-        ensures group { IfSome result (λ group. EndsAlike self.now.rows group.0.now group.1) }
+        ensures last { IfSome result (λ last. EndsWith self.now.rows last.0.now last.1) }
     {
-        let mut first = self.places.len().checked_sub(1)?;
-        let row = self.row(first);
-        while first > 0 && self.row(first - 1) == row {
-            first -= 1;
-        }
-        Some((row, first))
+        let last = self.places.len().checked_sub(1)?;
+        Some((self.row(last), self.places[last].times))
     }
 
     /// How many words each row has.
@@ -102,27 +157,30 @@ impl Batch {
         self.width
     }
 
-    /// How many rows wait.
-    pub(crate) fn len(&self) -> usize
-        ensures { result ≡ length self.now.rows }
+    /// How many rows wait in all.
+    pub(crate) fn len(&self) -> u64
+        ensures { result ≡ length (all_rows self.now.rows) }
     {
-        self.places.len()
+        self.len
     }
 
-    /// Keeps the first `len` rows alone.
-    pub(crate) fn truncate(&mut self, len: usize)
+    /// Drops the last row, however often it waits.
+    pub(crate) fn pop(&mut self)
         ensures width { self.new.width ≡ self.old.width }
-        ensures kept { self.new.rows ≡ take len self.old.rows }
+        ensures dropped { self.new.rows ≡ take (length self.old.rows - 1) self.old.rows }
     {
-        self.places.truncate(len);
-        if len == 0 {
+        if let Some(place) = self.places.pop() {
+            self.len -= place.times;
+        }
+        if self.places.is_empty() {
             self.words.clear();
+            self.guesses.clear();
         }
     }
 
     fn row(&self, index: usize) -> &[u64]
         requires { index < length self.now.rows }
-        ensures { result.now ≡ slice_index_or self.now.rows index result.now }
+        ensures { result.now ≡ (slice_index_or self.now.rows index (result.now, 0)).0 }
     {
         row_at(&self.words, self.width, self.places[index].start)
     }

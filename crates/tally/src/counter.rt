@@ -1,7 +1,7 @@
 //! Counting the outcomes of very many runs, one after another.
 ghost use Rattle.std.specs.Prelude.{◌≡◌, ℕ, ◌+◌, ◌-◌, ◌^◌, ◌<◌, ◌≤◌, List, [], ◌∷◌, ◌++◌, length, OnOk, OnErr, IfOk};
 ghost use Rattle.tally.specs.declared.outcome.Outcome.{Outcome};
-ghost use Rattle.tally.specs.Counting.{CanCount, HasCounted, with_rows};
+ghost use Rattle.tally.specs.Counting.{CanCount, HasCounted, all_rows, with_rows};
 ghost use Rattle.tally.specs.Tallies.{IsCounts, IsTally, total_of, with_more, with_one_more};
 
 use crate::batch::Batch;
@@ -14,8 +14,8 @@ use std::marker::Model;
 /// Counts outcomes that come one after another, and gives their tally at the end.
 /// All signatures that it is given have the same number of words, its width.
 ///
-/// Signatures wait in a batch. When it is full it is sorted, and equal ones are counted together: a search for each distinct one of the batch, and no memory but for those
-/// that are new.
+/// Signatures wait in a batch, where one that comes again is found by a hash and only raises a number. When the batch is full it is sorted and its signatures are counted,
+/// each with its number: a search for each of them, and no memory but for those that are new.
 #[derive(Drop)]
 pub struct Counter {
     alloc: Global,
@@ -25,13 +25,13 @@ pub struct Counter {
 }
 
 impl Model for Counter {
-    ghost use Rattle.tally.specs.Counting.{CanCount, Counting, with_rows};
+    ghost use Rattle.tally.specs.Counting.{CanCount, Counting, all_rows, with_rows};
 
     ghost Value = { Counting };
 
-    ghost view = { λ c. record { width = c.batch.width; pairs = with_rows c.tally c.batch.rows } };
+    ghost view = { λ c. record { width = c.batch.width; pairs = with_rows c.tally (all_rows c.batch.rows) } };
 
-    ghost invariant = { λ c. CanCount c.tally c.batch.rows };
+    ghost invariant = { λ c. CanCount c.tally (all_rows c.batch.rows) };
 }
 
 impl Counter {
@@ -60,7 +60,7 @@ impl Counter {
     pub fn total(&self) -> u64
         ensures { result ≡ total_of self.now.pairs }
     {
-        self.tally.total() + self.batch.len() as u64
+        self.tally.total() + self.batch.len()
     }
 
     /// Counts one more inside outcome, of the signature with these words.
@@ -126,7 +126,7 @@ impl Counter {
     }
 }
 
-/// Counts the rows of the batch, equal ones together, and empties it.
+/// Counts the rows of the batch, each as often as it waits, and empties it.
 /// `Err` means want of memory; then the rows that weren't counted wait on.
 fn empty_batch(
     alloc: Global,
@@ -134,17 +134,16 @@ fn empty_batch(
     tally: &mut Tally,
     probe: &mut Outcome,
 ) -> Result<(), AllocError>
-    requires { CanCount tally.old batch.old.rows }
-    ensures sound { CanCount tally.new batch.new.rows }
+    requires { CanCount tally.old (all_rows batch.old.rows) }
+    ensures sound { CanCount tally.new (all_rows batch.new.rows) }
     ensures width { batch.new.width ≡ batch.old.width }
-    ensures same { with_rows tally.new batch.new.rows ≡ with_rows tally.old batch.old.rows }
+    ensures same { with_rows tally.new (all_rows batch.new.rows) ≡ with_rows tally.old (all_rows batch.old.rows) }
     ensures emptied { OnOk result (batch.new.rows ≡ []) }
 {
     batch.sort();
-    while let Some((row, first)) = batch.last_group() {
-        let times = (batch.len() - first) as u64;
+    while let Some((row, times)) = batch.last() {
         count_row(alloc, tally, probe, row, times)?;
-        batch.truncate(first);
+        batch.pop();
     }
     Ok(())
 }

@@ -4,6 +4,7 @@
 mod batch;
 mod counter;
 mod counts;
+mod guesses;
 pub mod laws;
 mod outcome;
 mod signature;
