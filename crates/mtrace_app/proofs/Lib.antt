@@ -6,3 +6,4 @@ pub mod Cycles
 pub mod JudgedSoFar
 pub mod RecordedAnswers
 pub mod Written
+pub mod OneMeaning

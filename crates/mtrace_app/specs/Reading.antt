@@ -2,9 +2,9 @@
 use Rattle.std.specs.Prelude.{ℕ, ◌+◌, ◌^◌, ◌<◌, ◌≤◌, List, length, Option, Some, None, ⊤}
 use Rattle.std.specs.Io.KnownBytes.{Consumes}
 
--- what is left now is what was left before without a front, which was taken
+-- What is left now is what was left before without a front, which was taken: no more than an input may have, and than is asked for at once.
 abbrev pub IsRestOf : Option (List ℕ) → Option (List ℕ) → Type 0
-IsRestOf before now = (taken : List ℕ) × Consumes before now taken
+IsRestOf before now = (taken : List ℕ) × Consumes before now taken × (length taken ≤ 2 ^ 30 + 2 ^ 16)
 
 -- a fact about what was left before and what is left now, where both are told
 abbrev pub WhereTold : Option (List ℕ) → Option (List ℕ) → (List ℕ → List ℕ → Type 0) → Type 0

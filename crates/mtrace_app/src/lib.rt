@@ -6,6 +6,7 @@ mod answering;
 mod check;
 mod input_fault;
 mod judging;
+pub mod laws;
 mod message;
 mod program;
 mod reading;

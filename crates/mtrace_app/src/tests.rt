@@ -413,6 +413,30 @@ fn signatures_of_several_words(rt: HostRuntime) -> Result<(), Fail> {
 }
 
 #[test]
+fn sixteen_threads_of_128_operations(rt: HostRuntime) -> Result<(), Fail> {
+    // One thread of stores and 15 of loads of one word. Each load gives the initial value, which is its first candidate.
+    let alloc = rt.alloc();
+    let stores = repeated(alloc, "st 0\n", 128, "")?;
+    let loads = repeated(alloc, "ld 0\n", 128, "")?;
+    let thread = format!(in alloc; "thread\n{loads}")?;
+    let threads = repeated(alloc, thread.as_str(), 15, "end\n")?;
+    let run = repeated(alloc, " 0", 1920, "\ndone\n")?;
+    let input = format!(in alloc; "mtest 1\nwords 1\nthread\n{stores}{threads}run{run}")?;
+    // 129 candidates: nine loads fill a word, so a thread has 15 words.
+    let words = repeated(alloc, ".0000000000000000", 224, "")?;
+    let output = format!(in alloc;
+        "mtrace 1\nmodel sc\nruns 1\nsig 0000000000000000{words} count 1 ok\n\
+        sum signatures 1 ok 1 cycle 0 outside 0\nwork chunks 1 full 1 kept 0 resorted 0 nodes 0\n"
+    )?;
+    let call = Call {
+        test: "",
+        runs: input.as_str(),
+        ..CHECK
+    };
+    check(&rt, alloc, &call, Status::Clean, output.as_str(), "")
+}
+
+#[test]
 fn limits_on_runs_and_values(rt: HostRuntime) -> Result<(), Fail> {
     let alloc = rt.alloc();
     let test = "mtest 1\nwords 1\nthread\nst 0\nend\n";
