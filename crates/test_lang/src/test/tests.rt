@@ -1,7 +1,7 @@
 //! Tests of every lookup, at every node, thread, rank and value of a few tests.
 
 use crate::op::Op;
-use crate::test::Test;
+use crate::test::{MAX_OPS, MAX_THREADS, MAX_WORDS, Test};
 use std::alloc::Global;
 use std::process::Abort;
 use std::test::Fail;
@@ -97,13 +97,13 @@ const CASES: [Case; 6] = [
 ];
 
 fn build(rt: &impl Abort, alloc: Global, words: u32, threads: &[&[Op]]) -> Result<Test, Fail> {
-    assert!(rt; 1 <= words && words <= 256);
+    assert!(rt; 1 <= words && words <= MAX_WORDS);
     let mut test = Test::new(alloc, words);
     for ops in threads {
-        assert!(rt; test.threads() < 16);
+        assert!(rt; test.threads() < MAX_THREADS);
         test.add_thread()?;
         for op in ops.iter() {
-            assert!(rt; test.threads() > 0 && test.ops() < 2048);
+            assert!(rt; test.threads() > 0 && test.ops() < MAX_OPS);
             assert!(rt; test.has_word(*op));
             test.add_op(*op)?;
         }

@@ -2,13 +2,9 @@
 ghost use Rattle.std.specs.Prelude.{◌≡◌};
 ghost use Rattle.test_lang.specs.Text.Reading.{judged};
 
-use crate::test::Test;
+use crate::test::{MAX_OPS, MAX_THREADS, Test};
 use crate::text::fault::TestFault;
 use crate::text::form::Form;
-
-const MAX_THREADS: u32 = 16;
-
-const MAX_OPS: u32 = 2048;
 
 /// The form of a line behind the lines of the test, or the first refusal that applies.
 pub fn judge(test: &Test, line: u32, form: Option<Form>) -> Result<Form, TestFault>

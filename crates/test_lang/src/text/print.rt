@@ -8,7 +8,7 @@ ghost use Rattle.test_lang.specs.Text.Grammar.{op_line, thread_lines, test_text}
 ghost use Rattle.test_lang.specs.Text.Reading.{reading};
 
 use crate::op::Op;
-use crate::test::Test;
+use crate::test::{MAX_OPS, Test};
 use itoa::Buffer;
 use std::alloc::{AllocError, Global};
 
@@ -38,7 +38,7 @@ fn push_op(out: &mut Vec<u8>, op: Op) -> Result<(), AllocError>
 /// Adds the lines of a thread.
 fn push_thread(out: &mut Vec<u8>, test: &Test, thread: u32) -> Result<(), AllocError>
     requires thread { thread < length test.now.threads }
-    requires few { op_count test.now ≤ 2048 }
+    requires few { op_count test.now ≤ MAX_OPS }
     ensures { OnOk result (out.new.items ≡ out.old.items ++ closed (thread_lines (slice_index_or test.now.threads thread []))) }
 {
     out.extend_from_slice(b"thread\n")?;
