@@ -9,6 +9,7 @@ use Rattle.test_lang.specs.declared.target.Target.{Target}
 use Rattle.test_lang.specs.declared.target.Target.TheVariants as target
 use Rattle.test_lang.specs.declared.target.Fault.{Fault}
 use Rattle.test_lang.specs.declared.target.Fault.TheVariants as fault
+use Rattle.test_lang.specs.Models.{model_name}
 use Rattle.test_lang.specs.Text.Numeral.{whole_numeral}
 use Rattle.command_line.specs.declared.meaning.Command.{Command}
 use Rattle.command_line.specs.declared.meaning.Command.TheVariants as command
@@ -33,10 +34,11 @@ command_of = named ((codes "check", command.Check) ∷ (codes "replay", command.
     ∷ (codes "race", command.Race) ∷ (codes "generate", command.Generate) ∷ (codes "demo", command.Demo) ∷ [])
 
 abbrev pub model_of : Text → Option MemModel
-model_of = named ((codes "sc", model.Sc) ∷ (codes "tso", model.Tso) ∷ (codes "weak", model.Weak) ∷ [])
+model_of = named ((model_name model.Sc, model.Sc) ∷ (model_name model.Tso, model.Tso) ∷ (model_name model.Weak, model.Weak) ∷ [])
 
+-- a machine has the name of its model
 abbrev pub target_of : Text → Option Target
-target_of = named ((codes "sc", target.Sc) ∷ (codes "tso", target.Tso) ∷ (codes "weak", target.Weak) ∷ [])
+target_of = named ((model_name model.Sc, target.Sc) ∷ (model_name model.Tso, target.Tso) ∷ (model_name model.Weak, target.Weak) ∷ [])
 
 abbrev pub plain_fault_of : Text → Option Fault
 plain_fault_of = named ((codes "none", fault.None) ∷ (codes "nofence", fault.NoFence) ∷ (codes "unordered", fault.Unordered)
@@ -62,10 +64,10 @@ abbrev pub number_option : Text → Text → ℕ → ℕ → OptionOf ℕ
 number_option name default least most = option_of name default (number_between least most)
 
 abbrev pub model_option : OptionOf MemModel
-model_option = option_of (codes "model") (codes "sc") model_of
+model_option = option_of (codes "model") (model_name model.Sc) model_of
 
 abbrev pub target_option : OptionOf Target
-target_option = option_of (codes "target") (codes "sc") target_of
+target_option = option_of (codes "target") (model_name model.Sc) target_of
 
 abbrev pub fault_option : OptionOf Fault
 fault_option = option_of (codes "fault") (codes "none") fault_of

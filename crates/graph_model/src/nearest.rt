@@ -1,6 +1,7 @@
 //! The node of each kind that was met last, on a way through the nodes in either direction.
 ghost use Rattle.std.specs.Prelude.{◌≡◌, length};
-ghost use Rattle.graph_model.specs.WordTables.{HasWordBelow, at_word};
+ghost use Rattle.test_lang.specs.Program.{HasWordBelow};
+ghost use Rattle.graph_model.specs.WordTables.{at_word};
 
 use crate::kinds::Kind;
 use std::alloc::{AllocError, Global};

@@ -3,8 +3,8 @@ ghost use Rattle.std.specs.Prelude.{◌≡◌, [], ◌∷◌, ◌++◌, length, 
 ghost use Rattle.std.specs.Fmt.{decimal};
 ghost use Rattle.std.specs.List.{flat_map};
 ghost use Rattle.test_lang.specs.Text.Line.{closed};
-ghost use Rattle.verdict_report.specs.Lines.{head_lines, model_name, is_cycle, is_ok, sum_line, outcome_lines, outside_line, outsides, signature_line, signatures, verdict_text, work_line};
-ghost use Rattle.verdict_report.specs.Numbers.{part};
+ghost use Rattle.test_lang.specs.Text.Numeral.{part};
+ghost use Rattle.verdict_report.specs.Lines.{head_lines, is_cycle, is_ok, sum_line, outcome_lines, outside_line, outsides, signature_line, signatures, verdict_text, work_line};
 
 use crate::numbers::{push_named, push_part, push_signature};
 use crate::report::{Judged, Work};
@@ -12,23 +12,12 @@ use std::alloc::AllocError;
 use tally::{Outcome, Tally};
 use test_lang::op::MemModel;
 
-/// The name of a model.
-fn name(model: MemModel) -> &'static [u8]
-    ensures { result.now ≡ model_name model }
-{
-    match model {
-        MemModel::Sc => b"sc",
-        MemModel::Tso => b"tso",
-        MemModel::Weak => b"weak",
-    }
-}
-
 /// Adds the lines before those of the outcomes.
 pub fn push_head(out: &mut Vec<u8>, model: MemModel, runs: u64) -> Result<(), AllocError>
     ensures { OnOk result (out.new.items ≡ out.old.items ++ closed (head_lines model runs)) }
 {
     out.extend_from_slice(b"mtrace 1\nmodel ")?;
-    out.extend_from_slice(name(model))?;
+    out.extend_from_slice(model.name().as_bytes())?;
     out.extend_from_slice(b"\nruns")?;
     push_part(out, runs)?;
     out.push(b'\n')?;

@@ -2,7 +2,8 @@
 ghost use Rattle.std.specs.Prelude.{◌≡◌, ◌<◌, ◌++◌, false, OnOk, codes};
 ghost use Rattle.std.specs.Fmt.{decimal, digit_glyph};
 ghost use Rattle.std.specs.List.{flat_map};
-ghost use Rattle.verdict_report.specs.Numbers.{hex_word, part, signature_text};
+ghost use Rattle.test_lang.specs.Text.Numeral.{part};
+ghost use Rattle.verdict_report.specs.Numbers.{hex_word, signature_text};
 
 use itoa::Buffer;
 use std::alloc::AllocError;
