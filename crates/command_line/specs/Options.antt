@@ -2,7 +2,8 @@
 use Rattle.std.specs.Prelude.{ℕ, ◌&&◌, List, [], ◌∷◌, Option, Some, None, true, if◌then◌else◌, nat_le, nat_eq, codes, drop, option_map, option_and_then}
 use Rattle.std.specs.List.{starts_with}
 use Rattle.std.specs.Str.{bytes_eq}
-use Rattle.clap.specs.Words.{App, Row, Rule, Text, first_of, new_app, new_rule, with_rule}
+use Rattle.clap.specs.declared.parser.matches.ArgMatches.{ArgMatches}
+use Rattle.clap.specs.Words.{App, Row, Rule, Text, first_of, found_of, new_app, new_rule, rows_of, with_rule}
 use Rattle.test_lang.specs.declared.op.MemModel.{MemModel}
 use Rattle.test_lang.specs.declared.op.MemModel.TheVariants as model
 use Rattle.test_lang.specs.declared.target.Target.{Target}
@@ -132,6 +133,10 @@ abbrev pub the_command : App
 the_command = with_rules (behind_the_name (new_app (codes "mtrace"))) the_rules
 
 -- ---- what clap's matches say
+
+-- the rows of all that was found
+abbrev pub found_rows : ArgMatches → List Row
+found_rows matches = rows_of (found_of matches)
 
 -- what an option's text stands for
 abbrev pub value : {T : Type 0} → List Row → OptionOf T → Option T
