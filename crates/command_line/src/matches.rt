@@ -26,7 +26,8 @@ fn with_names<'a>(
     mut command: Command<'a>,
     rows: &[OptionRow],
 ) -> Result<Command<'a>, AllocError>
-    ensures { IfOk result (λ c. app_of c ≡ with_rules (app_of command.entry) (map row_rule rows.now)) }
+    ensures { IfOk result
+        (λ c. app_of c ≡ with_rules (app_of command.entry) (map row_rule rows.now)) }
 {
     for row in rows {
         command = command.arg(option(alloc, row))?;
@@ -40,7 +41,8 @@ fn with_numbers<'a>(
     mut command: Command<'a>,
     numbers: &[NumberRow],
 ) -> Result<Command<'a>, AllocError>
-    ensures { IfOk result (λ c. app_of c ≡ with_rules (app_of command.entry) (map number_rule numbers.now)) }
+    ensures { IfOk result
+        (λ c. app_of c ≡ with_rules (app_of command.entry) (map number_rule numbers.now)) }
 {
     for number in numbers {
         command = command.arg(option(alloc, &number.row))?;

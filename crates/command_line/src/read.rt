@@ -128,7 +128,9 @@ pub fn settings(alloc: Global, words: &[String]) -> Result<Settings, WordsFault>
     ensures refused { result ≡ Err WordsFault.Refused → HasNoSettings (map string_bytes words.now) }
 
     // Words that have settings are never refused, and get these.
-    ensures known { (s : Settings) → HasSettings (map string_bytes words.now) s → (result ≡ Ok s) ⊎ (result ≡ Err WordsFault.Memory) }
+    ensures known { (s : Settings) →
+        HasSettings (map string_bytes words.now) s
+        → (result ≡ Ok s) ⊎ (result ≡ Err WordsFault.Memory) }
     ensures ranges { IfOk result IsWithinRanges }
 {
     let matches = matches(alloc, words)?;

@@ -45,7 +45,8 @@ impl Nearest {
     pub fn meet(&mut self, node: u32, op: Op)
         requires { HasWordBelow (length self.old.loads.items) op }
         ensures room { length self.new.loads.items ≡ length self.old.loads.items }
-        ensures told { (f : (Op → Bool) → Option ℕ) → Tells f self.old → Tells (with_node f node op) self.new }
+        ensures told { (f : (Op → Bool) → Option ℕ) →
+            Tells f self.old → Tells (with_node f node op) self.new }
     {
         self.any = Some(node);
         match op {

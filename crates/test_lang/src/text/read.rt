@@ -53,10 +53,13 @@ struct Body<'a> {
 fn read_body(alloc: Global, text: &[u8], words: u32) -> Result<Body<'_>, TestFault>
     requires some { 1 ≤ words }
     requires few { words ≤ MAX_WORDS }
-    ensures test { IfOk result (λ body. walk (empty_program words) 3 (lines_of text.now) ≡ Ok body.test) }
+    ensures test { IfOk result
+        (λ body. walk (empty_program words) 3 (lines_of text.now) ≡ Ok body.test) }
     ensures last { IfOk result (λ body. body.last ≡ length (body_lines body.test) + 3) }
-    ensures left { IfOk result (λ body. text.now ≡ closed (body_lines body.test ++ codes "end" ∷ []) ++ body.left.now) }
-    ensures fault { IfErr result (λ fault. (fault ≡ Memory) ⊎ (walk (empty_program words) 3 (lines_of text.now) ≡ Err fault)) }
+    ensures left { IfOk result
+        (λ body. text.now ≡ closed (body_lines body.test ++ codes "end" ∷ []) ++ body.left.now) }
+    ensures fault { IfErr result (λ fault. (fault ≡ Memory)
+        ⊎ (walk (empty_program words) 3 (lines_of text.now) ≡ Err fault)) }
 {
     let mut test = Test::new(alloc, words);
     let mut left = text;
@@ -114,7 +117,8 @@ impl Test {
         // What is refused is refused so by the rules of the text.
         ensures refused { IfErr result (λ fault. (fault ≡ Memory) ⊎ IsRefused bytes.now fault) }
         // What the bytes mean is answered, unless memory runs out.
-        ensures only { (meant : Result Program TestFault) → Means bytes.now meant → Answers result meant }
+        ensures only { (meant : Result Program TestFault) →
+            Means bytes.now meant → Answers result meant }
         ensures used_within { IfOk result (λ read. read.used ≤ length bytes.now) }
         ensures few_lines { IfOk result (λ read. read.lines ≤ MAX_LINES) }
     {
