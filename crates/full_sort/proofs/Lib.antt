@@ -14,9 +14,13 @@ pub mod LevelLists
 pub mod Pigeons
 pub mod Measured
 pub mod Descents
-pub mod Reaching
-pub mod EdgeWalks
-pub mod Closures
+mod EdgeWalks
+mod ListsOf
+mod Searches
+mod SearchArrays
+mod Numbering
+mod ComponentLaws
+mod ComponentSteps
 pub mod LeastCycles
 mod Strips
 mod Counted

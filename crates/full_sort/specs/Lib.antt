@@ -2,5 +2,5 @@ pub mod Bits
 pub mod Waiting
 pub mod Scratch
 pub mod Levels
-pub mod Reached
-pub mod Candidates
+pub mod Finishing
+pub mod Components

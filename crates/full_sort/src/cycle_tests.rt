@@ -49,12 +49,21 @@ fn least_counted<L: Ledger>(graph: &Graph, scratch: &mut Scratch, blank: Blank) 
     least_on_cycle(graph, scratch, &mut steps)
 }
 
+/// The least node on a cycle, or none.
+pub fn least(graph: &Graph, scratch: &mut Scratch) -> Option<u32>
+    requires room { scratch.old ≡ graph.now.nodes }
+    ensures least { IfSome result (IsLeastOnCycle (HasEdge graph.now.edges)) }
+    ensures room { scratch.new ≡ scratch.old }
+{
+    least_counted::<Brand>(graph, scratch, Blank::new(1))
+}
+
 /// The nodes of the canonical cycle, or none.
 pub fn canonical(alloc: Global, graph: &Graph) -> Result<Nodes, AllocError> {
     let nodes = graph.nodes();
     let mut scratch = Scratch::new(alloc, nodes)?;
     let mut cycle = Nodes::with_room(alloc, nodes)?;
-    if let Some(start) = least_counted::<Brand>(graph, &mut scratch, Blank::new(1)) {
+    if let Some(start) = least(graph, &mut scratch) {
         shortest_cycle_into(&Looked { graph }, start, &mut scratch, &mut cycle);
     }
     Ok(cycle)

@@ -2,10 +2,11 @@
 #![tactic(auto)]
 
 mod bits;
-mod candidates;
+mod components;
+mod cyclic;
+mod finishing;
 mod levels;
 mod node_set;
-mod reached;
 mod shortest;
 mod sorting;
 mod waiting;
@@ -18,6 +19,8 @@ pub use sorting::{
 
 #[cfg(test)]
 mod cycle_tests;
+#[cfg(test)]
+mod least_cycle_tests;
 #[cfg(test)]
 mod small_graph_tests;
 #[cfg(test)]

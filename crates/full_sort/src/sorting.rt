@@ -5,9 +5,10 @@ ghost use Rattle.orders.specs.Cycles.{IsFirstShortestCycle, IsLeastOnCycle, IsOn
 ghost use Rattle.orders.specs.Orders.{IsLeastOrder, HasNoOrder, nodes_below};
 ghost use Rattle.digraph.specs.Digraph.{HasEdge, edges_out, edges_in};
 
-use crate::candidates::note_candidates;
+use crate::components::number_components;
+use crate::cyclic::least_reaching_itself;
+use crate::finishing::finishing_order;
 use crate::node_set::NodeSet;
-use crate::reached::least_reaching_itself;
 use crate::shortest::shortest_cycle;
 use crate::whole::order_all_into;
 use crate::window::order_into;
@@ -26,6 +27,7 @@ pub struct Scratch {
     ready: NodeSet,
     placed: Vec<u32>,
     all: Vec<u32>,
+    queue: Vec<u32>,
 }
 
 impl Model for Scratch {
@@ -36,7 +38,8 @@ impl Model for Scratch {
 
     ghost view = { λ s. length s.waiting.items };
 
-    ghost invariant = { λ s. IsScratch s.waiting.items s.marks.items s.ready s.placed.items s.all.items };
+    ghost invariant = { λ s.
+        IsScratch s.waiting.items s.marks.items s.ready s.placed.items s.all.items s.queue.items };
 }
 
 impl Scratch {
@@ -48,6 +51,7 @@ impl Scratch {
         let marks = vec![in alloc; false; nodes as usize]?;
         let ready = NodeSet::new(alloc, nodes)?;
         let placed = vec![in alloc; 0u32; nodes as usize]?;
+        let queue = vec![in alloc; 0u32; nodes as usize]?;
         let mut all = Vec::with_capacity(alloc, nodes as usize)?;
         for node in 0..nodes {
             all.push(node)?;
@@ -58,6 +62,7 @@ impl Scratch {
             ready,
             placed,
             all,
+            queue,
         })
     }
 }
@@ -131,8 +136,11 @@ pub fn window_order_into<L: Ledger>(
     )
 }
 
-/// The least node that lies on a cycle, if there is a cycle. It is the first node, in rising order, from which a search along the edges comes
-/// back to it. Nodes that no cycle leads to are left out before, and so are those that lead to none: a search begins at the others alone.
+/// The least node that lies on a cycle, if there is a cycle: the least from which an edge leads to a node
+/// of its own strongly connected component. The components are found by two searches, after Kosaraju and
+/// Sharir: one along the edges gives the order in which it finishes the nodes; from its last node to the
+/// first, the nodes that lead there against the edges, without those of earlier components, are one.
+/// Each search is in time of the nodes and the edges.
 pub fn least_on_cycle<L: Ledger>(
     graph: &Graph,
     scratch: &mut Scratch,
@@ -144,22 +152,21 @@ pub fn least_on_cycle<L: Ledger>(
     ensures room { scratch.new ≡ scratch.old }
 {
     let _edges = graph.edges();
-    note_candidates(
+    finishing_order(
         graph,
-        &scratch.all,
+        &mut scratch.marks,
+        &mut scratch.queue,
+        &mut scratch.placed,
+        steps,
+    );
+    number_components(
+        graph,
+        &scratch.placed,
         &mut scratch.waiting,
-        &mut scratch.marks,
-        &mut scratch.ready,
-        &mut scratch.placed,
+        &mut scratch.queue,
         steps,
     );
-    let least = least_reaching_itself(
-        graph,
-        &scratch.waiting,
-        &mut scratch.marks,
-        &mut scratch.placed,
-        steps,
-    );
+    let least = least_reaching_itself(graph, &scratch.waiting, steps);
     scratch.waiting.fill(0);
     least
 }

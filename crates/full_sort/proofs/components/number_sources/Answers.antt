@@ -1,0 +1,27 @@
+use Rattle.std.proofs.Common.{◌+◌, get_or, arith}
+use Rattle.digraph.specs.Digraph.{HasEdge}
+use Rattle.full_sort.proofs.Numbering.{all_taken, next_listed, number_below, taking_on}
+use Rattle.full_sort.proofs.components.number_sources.Goals as goal
+
+pub take_sources-count-requires-clause-node : goal.take_sources-count-requires-clause-node
+take_sources-count-requires-clause-node g c =
+    let l = c.loop-done in
+    let root = c.args.root in
+    let has = next_listed (HasEdge c.args.graph.now.edges) root (root + 1) c.args.numbers.now (omega arith) c.requires.fresh l.numbers l.queue l.count l.done l.invariant c.loop-done-test.true in
+    let below = number_below l.numbers (root + 1) (get_or l.queue l.done 0) (omega arith) has in
+    let size = l.auto.numbers in
+    let nodes = c.requires.numbers in
+    omega (arith, below, size, nodes)
+
+pub loop-done-preserved : goal.loop-done-preserved
+loop-done-preserved g c =
+    let l = c.loop-done in
+    let root = c.args.root in
+    let n = c.take_sources-count.ensures in
+    taking_on (HasEdge c.args.graph.now.edges) root (root + 1) c.args.numbers.now (omega arith) c.requires.fresh l.numbers l.queue l.count l.done l.invariant c.take_sources-count.new.numbers
+    c.take_sources-count.new.queue c.take_sources-count.result c.loop-done-test.true n.listed n.few n.more n.front n.given n.taken
+
+pub returns : goal.returns
+returns g c =
+    let l = c.loop-done in
+    all_taken (HasEdge c.args.graph.now.edges) c.args.root (c.args.root + 1) c.args.numbers.now (omega arith) c.requires.fresh l.numbers l.queue l.count l.done l.invariant c.loop-done-test.false
