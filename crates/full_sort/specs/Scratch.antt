@@ -1,5 +1,5 @@
 -- The arrays that a sort works in.
-use Rattle.std.specs.Prelude.{◌≡◌, ℕ, ◌*◌, ◌≤◌, List, Bool, false, length, slice_index, None}
+use Rattle.std.specs.Prelude.{◌≡◌, ℕ, ◌+◌, ◌*◌, ◌≤◌, List, Bool, false, length, slice_index, None}
 use Rattle.orders.specs.Orders.{nodes_below}
 use Rattle.full_sort.specs.Bits.{IsFirstBit}
 use Rattle.full_sort.specs.Waiting.{is_marked}
@@ -10,10 +10,11 @@ pub record IsClean (waiting : List ℕ) (marks : List Bool) (ready : List ℕ) :
   pub no_marks : (t : ℕ) → is_marked marks t ≡ false
   pub empty : IsFirstBit ready None
 
--- Clean arrays for as many nodes as there are counts, room for an order of them, and the list of them all.
-pub record IsScratch (waiting : List ℕ) (marks : List Bool) (ready placed all : List ℕ) : Type 0 where
+-- Clean arrays for as many nodes as there are counts, room for an order of them, the list of them all, and room for counts and one more.
+pub record IsScratch (waiting : List ℕ) (marks : List Bool) (ready placed all counts : List ℕ) : Type 0 where
   pub clean : IsClean waiting marks ready
   pub marks_room : length marks ≡ length waiting
   pub ready_room : length waiting ≤ 64 * length ready
   pub placed_room : length placed ≡ length waiting
   pub whole : all ≡ nodes_below (length waiting)
+  pub counts_room : length counts ≡ length waiting + 1

@@ -6,6 +6,8 @@ mod candidates;
 mod levels;
 mod node_set;
 mod reached;
+mod ready;
+mod releasing;
 mod shortest;
 mod sorting;
 mod waiting;
