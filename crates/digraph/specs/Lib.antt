@@ -1,3 +1,4 @@
 pub mod Digraph
+pub mod AtHand
 pub mod KeyList
 pub mod Roomed

@@ -26,3 +26,5 @@ mod Strips
 mod Counted
 mod Gained
 mod Without
+mod Releases
+mod Holding
