@@ -1,4 +1,5 @@
 pub mod Last
 mod Linking
+pub mod Marks
 mod Ends
 mod Viewed

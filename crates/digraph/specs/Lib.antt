@@ -1,3 +1,4 @@
 pub mod Digraph
 pub mod KeyList
+pub mod Marks
 pub mod Roomed

@@ -27,10 +27,10 @@ pub front_inside : (E : ℕ → ℕ → Type 0) (n end : ℕ) → ((a b : ℕ) �
 front_inside E n end inside lt k list front = λ i d below. front_below E n end inside lt k list front (get_or list i d) (Contains-get_or list i d below)
 
 module _ (E : ℕ → ℕ → Type 0) (n end : ℕ) (inside : (a b : ℕ) → E a b → (a < n) × (b < n)) where
-  pub level_more : (k : ℕ) (list old new : List ℕ) → IsLevelled E n end k old → IsFront E end k list → AddsLevel E n (k + 1) list old new → IsLevelled E n end (k + 1) new
+  pub level_more : (k : ℕ) (list old new : List ℕ) → IsLevelled E n end k old → IsFront E end k list → AddsLevel E (k + 1) list old new → IsLevelled E n end (k + 1) new
   level_more k list old new levelled front adds =
       subst (λ (m : ℕ). IsLevelled E n end m new) (sym (add-one k))
-      (levelled_more E n end inside k list old new levelled front (subst (λ (m : ℕ). AddsLevel E n m list old new) (add-one k) adds))
+      (levelled_more E n end inside k list old new levelled front (subst (λ (m : ℕ). AddsLevel E m list old new) (add-one k) adds))
 
   pub front_more : (k : ℕ) (levels list : List ℕ) → IsLevelled E n end (k + 1) levels → Lists levels (k + 1) list n → IsFront E end (k + 1) list
   front_more k levels list levelled lists =

@@ -1,34 +1,18 @@
 //! Distances of nodes from a node, level by level.
-ghost use Rattle.std.specs.Prelude.{◌≡◌, ◌↔◌, ℕ, ◌+◌, ◌<◌, ◌≤◌, length, slice_index, take, All, Contains, IsTrue};
+ghost use Rattle.std.specs.Prelude.{◌≡◌, ◌↔◌, ℕ, ◌+◌, ◌<◌, ◌≤◌, length, slice_index, take, All, Contains};
 ghost use Rattle.orders.specs.Cycles.{IsOnCycle};
-ghost use Rattle.full_sort.specs.Levels.{AddsLevel, IsLevelled, Touches};
+ghost use Rattle.full_sort.specs.Levels.{AddsLevel, IsLevelled};
 
 use digraph::Pairs;
-
-/// Whether an edge leads from the node to a node of the list.
-fn touches<P: Pairs>(pairs: &P, node: u32, list: &[u32]) -> bool
-    requires node { node < P.node_count pairs.now }
-    requires list { All (λ y. y < P.node_count pairs.now) list.now }
-    ensures { IsTrue result ↔ Touches (P.edges pairs.now) node list.now }
-{
-    for target in list {
-        if pairs.edge(node, *target) {
-            return true;
-        }
-    }
-    false
-}
 
 /// Gives the level to each node that has none and from which an edge leads to the list.
 fn add_level<P: Pairs>(pairs: &P, list: &[u32], level: u32, levels: &mut [u32])
     requires list { All (λ y. y < P.node_count pairs.now) list.now }
     requires levels { length levels.old ≡ P.node_count pairs.now }
-    ensures { AddsLevel (P.edges pairs.now) (P.node_count pairs.now) level list.now levels.old levels.new }
+    ensures { AddsLevel (P.edges pairs.now) level list.now levels.old levels.new }
 {
-    for node in 0..pairs.nodes() {
-        if levels[node as usize] == 0 && touches(pairs, node, list) {
-            levels[node as usize] = level;
-        }
+    for target in list {
+        pairs.mark_sources(*target, level, levels);
     }
 }
 

@@ -1,5 +1,5 @@
 use Rattle.std.proofs.Common.{◌<◌, ◌+◌, ◌∙◌, ℕ, length, get_or, take, arith, subst, sym}
-use Rattle.full_sort.specs.Levels.{IsLevelled, AddsLevel}
+use Rattle.full_sort.specs.Levels.{IsLevelled}
 use Rattle.full_sort.proofs.LevelSteps.{levelled_none}
 use Rattle.full_sort.proofs.Measured.{front_start, front_inside, level_more, front_more, met_in_time}
 use Rattle.full_sort.proofs.levels.measure.Goals as goal
@@ -27,7 +27,7 @@ returns-then-levels-end-ne0-clause-levelled g c =
     subst (λ (n : ℕ). IsLevelled E n c.args.end (c.loop-done.done + 1) c.add_level.new.levels) c.nodes-nodes.ensures.count
     (level_more E c.nodes-nodes.result c.args.end c.nodes-nodes.ensures.inside c.loop-done.done (take c.loop-done.count c.loop-done.list) c.loop-done.levels c.add_level.new.levels
     c.loop-done.invariant.levelled c.loop-done.invariant.front
-    (subst (λ (n : ℕ). AddsLevel E n (c.loop-done.done + 1) (take c.loop-done.count c.loop-done.list) c.loop-done.levels c.add_level.new.levels) (sym c.nodes-nodes.ensures.count) c.add_level.ensures))
+    c.add_level.ensures)
 
 pub loop-done-preserved : goal.loop-done-preserved
 loop-done-preserved g c =
@@ -35,7 +35,7 @@ loop-done-preserved g c =
     let nodes = c.nodes-nodes.result in
     let levelled = level_more E nodes c.args.end c.nodes-nodes.ensures.inside c.loop-done.done (take c.loop-done.count c.loop-done.list) c.loop-done.levels c.add_level.new.levels
     c.loop-done.invariant.levelled c.loop-done.invariant.front
-    (subst (λ (n : ℕ). AddsLevel E n (c.loop-done.done + 1) (take c.loop-done.count c.loop-done.list) c.loop-done.levels c.add_level.new.levels) (sym c.nodes-nodes.ensures.count) c.add_level.ensures) in
+    c.add_level.ensures in
     record {
       levelled = levelled;
       front = front_more E nodes c.args.end c.nodes-nodes.ensures.inside c.loop-done.done c.add_level.new.levels (take c.list_level-count.result c.list_level-count.new.list) levelled c.list_level-count.ensures.lists;
