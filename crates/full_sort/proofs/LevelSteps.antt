@@ -5,7 +5,7 @@ use Rattle.orders.specs.Paths.{Linked}
 use Rattle.full_sort.specs.Levels.{HasPath, IsShortest, IsLevelled, Touches, AddsLevel, IsFront}
 
 -- a path of one edge more, behind an edge to a node of the front
-path_behind : (E : ℕ → ℕ → Type 0) (end k : ℕ) (list : List ℕ) → IsFront E end k list → (x : ℕ) → Touches E x list → HasPath E x end (suc k)
+pub path_behind : (E : ℕ → ℕ → Type 0) (end k : ℕ) (list : List ℕ) → IsFront E end k list → (x : ℕ) → Touches E x list → HasPath E x end (suc k)
 path_behind E end zero list front x t =
     let same : t.0 ≡ end = (front t.0).0 t.1 in
     ([], subst (E x) same t.2, omega arith)
