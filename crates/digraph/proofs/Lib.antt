@@ -1,5 +1,6 @@
 pub mod Last
 mod Linking
+pub mod Marks
 mod Ends
 mod Viewed
 pub mod AtHand

@@ -10,6 +10,7 @@ mod State
 mod Placing
 mod Cleaning
 pub mod LevelSteps
+mod Touching
 pub mod LevelLists
 pub mod Pigeons
 pub mod Measured
