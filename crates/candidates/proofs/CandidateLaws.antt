@@ -8,13 +8,12 @@ use Rattle.std.proofs.lemmas.Option.{same_Some, slice_get-get_or, slice_get-map}
 use Rattle.test_lang.specs.declared.op.Op.{Op}
 use Rattle.test_lang.specs.declared.op.Op.TheVariants.{Load, Store, Fence}
 use Rattle.test_lang.specs.Program.{Program, nodes, op_count, passes}
-use Rattle.test_lang.specs.Values.{is_load, is_store, is_load_at, is_store_at, load_count, load_nodes, store_count, value_of}
+use Rattle.test_lang.specs.Values.{is_load, is_store, is_store_to, is_load_at, is_store_at, load_count, load_nodes, store_count, value_of}
 use Rattle.test_lang.specs.Runs.{own_earlier, base, others, candidates}
 use Rattle.test_lang.proofs.CandidateKinds.{last_below}
 use Rattle.test_lang.proofs.Places.{length-places_all, passing, passing-lt, place_at, places}
 use Rattle.test_lang.proofs.Ranks.{length-load_nodes, load_nodes-is_load, one_store, value_of-le}
 use Rattle.candidates.specs.ByRank.{candidates_at, load_at}
-use Rattle.candidates.specs.Stores.{is_store_to}
 use Rattle.candidates.proofs.LoadCandidates.{other_store, others-are}
 use Rattle.candidates.proofs.Lookups.{base_is_no_other, base_le, count_by_disjoint, store_no_load, store_to_is_store}
 

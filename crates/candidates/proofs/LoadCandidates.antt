@@ -10,12 +10,12 @@ use Rattle.orders.specs.Orders.{nodes_below}
 use Rattle.test_lang.specs.declared.op.Op.{Op}
 use Rattle.test_lang.specs.declared.op.Op.TheVariants.{Load, Store, Fence}
 use Rattle.test_lang.specs.Program.{Program, nodes, op_count, first_node, thread_length, passes, passes_after}
-use Rattle.test_lang.specs.Values.{is_store, is_of, same_word, same_thread, value_of}
+use Rattle.test_lang.specs.Values.{is_store, is_store_to, is_of, same_word, same_thread, value_of}
 use Rattle.test_lang.specs.Runs.{last_or_0, own_earlier, writes_for, base, others, candidates}
 use Rattle.test_lang.proofs.CandidateKinds.{last_or_0-push}
 use Rattle.test_lang.proofs.Places.{places, places-suc}
 use Rattle.test_lang.proofs.Threads.{StandsIn, thread_at-stands, stands-thread_at, thread_end-le}
-use Rattle.candidates.specs.Stores.{is_store_to, stores_before, stores_to, last_own}
+use Rattle.candidates.specs.Stores.{stores_before, stores_to, last_own}
 use Rattle.candidates.proofs.Blocks.{LeavesOut, leaves_out}
 
 -- filters of the numbers below n

@@ -11,14 +11,14 @@ use Rattle.orders.proofs.Members.{Contains-filter_back, Contains-map_back}
 use Rattle.test_lang.specs.declared.op.Op.{Op}
 use Rattle.test_lang.specs.declared.op.Op.TheVariants.{Load, Store, Fence}
 use Rattle.test_lang.specs.Program.{Program, nodes, all_nodes, op_count, passes}
-use Rattle.test_lang.specs.Values.{is_load, is_store, is_store_at, one_word, same_thread, load_count, store_count, value_of}
+use Rattle.test_lang.specs.Values.{is_load, is_store, is_store_to, is_store_at, one_word, same_thread, load_count, store_count, value_of}
 use Rattle.test_lang.specs.Runs.{own_earlier, writes_for, base, others, candidates}
 use Rattle.test_lang.proofs.CandidateKinds.{LastBelow, last_below}
 use Rattle.test_lang.proofs.CandidateKinds.LastBelow.{nothing, last}
 use Rattle.test_lang.proofs.Places.{passing, place_at, places, slice_get_left}
 use Rattle.test_lang.proofs.Ranks.{one_store, value_of-le}
 use Rattle.candidates.specs.declared.load_rows.LoadRow.{LoadRow}
-use Rattle.candidates.specs.Stores.{is_store_to, stores_to}
+use Rattle.candidates.specs.Stores.{stores_to}
 use Rattle.candidates.specs.declared.store_lists.StoreRow.{StoreRow}
 use Rattle.candidates.specs.Reading.{found_place, list_place}
 use Rattle.candidates.proofs.StoreSteps.{stores_before-short}

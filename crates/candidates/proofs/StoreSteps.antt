@@ -11,10 +11,10 @@ use Rattle.orders.proofs.Below.{length-below}
 use Rattle.test_lang.specs.declared.op.Op.{Op}
 use Rattle.test_lang.specs.declared.op.Op.TheVariants.{Load, Store, Fence}
 use Rattle.test_lang.specs.Program.{Program, nodes, op_at, at_node}
-use Rattle.test_lang.specs.Values.{is_store, value_of}
+use Rattle.test_lang.specs.Values.{is_store, is_store_to, value_of}
 use Rattle.test_lang.proofs.Places.{passing, passing-suc, places, places-suc, store_node, slice_get-append_left, slice_get_cases_end, slice_get_end}
 use Rattle.candidates.specs.declared.store_lists.StoreRow.{StoreRow}
-use Rattle.candidates.specs.Stores.{is_store_to, stores_before}
+use Rattle.candidates.specs.Stores.{stores_before}
 use Rattle.candidates.specs.Tables.{PlacesValue, ListsStores}
 
 -- a node that passes or not, as its value

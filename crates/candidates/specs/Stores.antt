@@ -1,16 +1,9 @@
 -- The stores to a word, in node order.
-use Rattle.std.specs.Prelude.{ℕ, List, Bool, false, ◌&&◌, ◌==◌, map, filter}
+use Rattle.std.specs.Prelude.{ℕ, List, ◌&&◌, ◌==◌, map, filter}
 use Rattle.orders.specs.Orders.{nodes_below}
-use Rattle.test_lang.specs.declared.op.Op.{Op}
-use Rattle.test_lang.specs.declared.op.Op.TheVariants.{Load, Store, Fence}
 use Rattle.test_lang.specs.Program.{Program, op_count, at_node}
-use Rattle.test_lang.specs.Values.{value_of}
+use Rattle.test_lang.specs.Values.{is_store_to, value_of}
 use Rattle.test_lang.specs.Runs.{last_or_0}
-
-abbrev pub is_store_to : ℕ → Op → Bool
-is_store_to x (Load word) = false
-is_store_to x (Store word) = x == word
-is_store_to x Fence = false
 
 -- the values of the stores to a word before node n
 abbrev pub stores_before : Program → ℕ → ℕ → List ℕ

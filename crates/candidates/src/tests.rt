@@ -1,6 +1,4 @@
 //! Tests of every candidate, and of every value that is none, of a few tests.
-ghost use Rattle.std.specs.Prelude.{◌↔◌, IsTrue};
-ghost use Rattle.test_lang.specs.Program.{HasWord};
 
 use crate::Candidates;
 use std::alloc::Global;
@@ -85,15 +83,6 @@ const CASES: [Case; 7] = [
     },
 ];
 
-fn has_word(test: &Test, op: Op) -> bool
-    ensures { IsTrue result ↔ HasWord test.now op }
-{
-    match op {
-        Op::Load { word } | Op::Store { word } => word < test.words(),
-        Op::Fence => true,
-    }
-}
-
 fn build(rt: &impl Abort, alloc: Global, words: u32, threads: &[&[Op]]) -> Result<Test, Fail> {
     assert!(rt; 1 <= words && words <= 256);
     let mut test = Test::new(alloc, words);
@@ -102,7 +91,7 @@ fn build(rt: &impl Abort, alloc: Global, words: u32, threads: &[&[Op]]) -> Resul
         test.add_thread()?;
         for op in ops.iter() {
             assert!(rt; test.threads() > 0 && test.ops() < 2048);
-            assert!(rt; has_word(&test, *op));
+            assert!(rt; test.has_word(*op));
             test.add_op(*op)?;
         }
     }

@@ -2,13 +2,15 @@
 use Rattle.std.specs.Prelude.{ℕ, ◌&&◌, List, [], ◌∷◌, Option, Some, None, true, if◌then◌else◌, nat_le, nat_eq, codes, drop, option_map, option_and_then}
 use Rattle.std.specs.List.{starts_with}
 use Rattle.std.specs.Str.{bytes_eq}
-use Rattle.clap.specs.Words.{App, Row, Rule, Text, first_of, new_app, new_rule, with_rule}
+use Rattle.clap.specs.declared.parser.matches.ArgMatches.{ArgMatches}
+use Rattle.clap.specs.Words.{App, Row, Rule, Text, first_of, found_of, new_app, new_rule, rows_of, with_rule}
 use Rattle.test_lang.specs.declared.op.MemModel.{MemModel}
 use Rattle.test_lang.specs.declared.op.MemModel.TheVariants as model
 use Rattle.test_lang.specs.declared.target.Target.{Target}
 use Rattle.test_lang.specs.declared.target.Target.TheVariants as target
 use Rattle.test_lang.specs.declared.target.Fault.{Fault}
 use Rattle.test_lang.specs.declared.target.Fault.TheVariants as fault
+use Rattle.test_lang.specs.Models.{model_name}
 use Rattle.test_lang.specs.Text.Numeral.{whole_numeral}
 use Rattle.command_line.specs.declared.meaning.Command.{Command}
 use Rattle.command_line.specs.declared.meaning.Command.TheVariants as command
@@ -33,10 +35,11 @@ command_of = named ((codes "check", command.Check) ∷ (codes "replay", command.
     ∷ (codes "race", command.Race) ∷ (codes "generate", command.Generate) ∷ (codes "demo", command.Demo) ∷ [])
 
 abbrev pub model_of : Text → Option MemModel
-model_of = named ((codes "sc", model.Sc) ∷ (codes "tso", model.Tso) ∷ (codes "weak", model.Weak) ∷ [])
+model_of = named ((model_name model.Sc, model.Sc) ∷ (model_name model.Tso, model.Tso) ∷ (model_name model.Weak, model.Weak) ∷ [])
 
+-- a machine has the name of its model
 abbrev pub target_of : Text → Option Target
-target_of = named ((codes "sc", target.Sc) ∷ (codes "tso", target.Tso) ∷ (codes "weak", target.Weak) ∷ [])
+target_of = named ((model_name model.Sc, target.Sc) ∷ (model_name model.Tso, target.Tso) ∷ (model_name model.Weak, target.Weak) ∷ [])
 
 abbrev pub plain_fault_of : Text → Option Fault
 plain_fault_of = named ((codes "none", fault.None) ∷ (codes "nofence", fault.NoFence) ∷ (codes "unordered", fault.Unordered)
@@ -62,10 +65,10 @@ abbrev pub number_option : Text → Text → ℕ → ℕ → OptionOf ℕ
 number_option name default least most = option_of name default (number_between least most)
 
 abbrev pub model_option : OptionOf MemModel
-model_option = option_of (codes "model") (codes "sc") model_of
+model_option = option_of (codes "model") (model_name model.Sc) model_of
 
 abbrev pub target_option : OptionOf Target
-target_option = option_of (codes "target") (codes "sc") target_of
+target_option = option_of (codes "target") (model_name model.Sc) target_of
 
 abbrev pub fault_option : OptionOf Fault
 fault_option = option_of (codes "fault") (codes "none") fault_of
@@ -130,6 +133,10 @@ abbrev pub the_command : App
 the_command = with_rules (behind_the_name (new_app (codes "mtrace"))) the_rules
 
 -- ---- what clap's matches say
+
+-- the rows of all that was found
+abbrev pub found_rows : ArgMatches → List Row
+found_rows matches = rows_of (found_of matches)
 
 -- what an option's text stands for
 abbrev pub value : {T : Type 0} → List Row → OptionOf T → Option T

@@ -6,5 +6,6 @@ ghost use Rattle.command_line.specs.Settings.{HasSettings};
 
 /// Words have one list of settings at most.
 pub fn one_settings()
-    ensures { (words : List Text) (s t : Settings) → HasSettings words s → HasSettings words t → s ≡ t }
+    ensures { (words : List Text) (s t : Settings) →
+        HasSettings words s → HasSettings words t → s ≡ t }
 {}

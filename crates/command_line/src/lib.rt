@@ -10,6 +10,7 @@ mod texts;
 
 pub use laws::one_settings;
 pub use meaning::{Command, Settings, WordsFault};
+pub use options::{MAX_CHUNK, MAX_RUNNERS, MAX_RUNS, MAX_SHARES, MAX_WORKERS};
 pub use read::settings;
 
 #[cfg(test)]

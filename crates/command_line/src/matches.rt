@@ -1,7 +1,7 @@
 //! The words by clap: one command with a word and options.
 ghost use Rattle.std.specs.Prelude.{◌≡◌, ◌≢◌, [], IfOk, Err, false, map, string_bytes};
-ghost use Rattle.clap.specs.Words.{app_of, rule_of, fault_of, found_of, matches_of, rows_of, with_rule};
-ghost use Rattle.command_line.specs.Options.{command_rule, option_rule, the_command, with_rules};
+ghost use Rattle.clap.specs.Words.{app_of, rule_of, fault_of, matches_of, with_rule};
+ghost use Rattle.command_line.specs.Options.{command_rule, found_rows, option_rule, the_command, with_rules};
 ghost use Rattle.command_line.specs.Rows.{number_rule, row_rule};
 
 use crate::meaning::WordsFault;
@@ -26,7 +26,8 @@ fn with_names<'a>(
     mut command: Command<'a>,
     rows: &[OptionRow],
 ) -> Result<Command<'a>, AllocError>
-    ensures { IfOk result (λ c. app_of c ≡ with_rules (app_of command.entry) (map row_rule rows.now)) }
+    ensures { IfOk result
+        (λ c. app_of c ≡ with_rules (app_of command.entry) (map row_rule rows.now)) }
 {
     for row in rows {
         command = command.arg(option(alloc, row))?;
@@ -40,7 +41,8 @@ fn with_numbers<'a>(
     mut command: Command<'a>,
     numbers: &[NumberRow],
 ) -> Result<Command<'a>, AllocError>
-    ensures { IfOk result (λ c. app_of c ≡ with_rules (app_of command.entry) (map number_rule numbers.now)) }
+    ensures { IfOk result
+        (λ c. app_of c ≡ with_rules (app_of command.entry) (map number_rule numbers.now)) }
 {
     for number in numbers {
         command = command.arg(option(alloc, &number.row))?;
@@ -63,8 +65,9 @@ fn command<'a>(alloc: Global) -> Result<Command<'a>, AllocError>
 /// What clap gives of the words.
 pub(crate) fn matches<'a>(alloc: Global, words: &'a [String]) -> Result<ArgMatches<'a>, WordsFault>
     ensures ok { IfOk result (λ m. (fault_of the_command (map string_bytes words.entry.now) ≡ [])
-        × (rows_of (found_of m) ≡ matches_of the_command (map string_bytes words.entry.now))) }
-    ensures refused { result ≡ Err WordsFault.Refused → fault_of the_command (map string_bytes words.entry.now) ≢ [] }
+        × (found_rows m ≡ matches_of the_command (map string_bytes words.entry.now))) }
+    ensures refused { result ≡ Err WordsFault.Refused
+        → fault_of the_command (map string_bytes words.entry.now) ≢ [] }
 {
     let Ok(command) = command(alloc) else {
         return Err(WordsFault::Memory);

@@ -3,6 +3,7 @@
 use test_gen::GenSettings;
 use test_lang::op::MemModel;
 use test_lang::target::{Fault, Target};
+use thiserror::Error;
 
 /// What the program is to do.
 #[derive(Clone, Copy, Debug, PartialEq, Eq, Drop)]
@@ -44,10 +45,12 @@ pub struct Settings {
 }
 
 /// Why words have no settings.
-#[derive(Clone, Copy, Debug, PartialEq, Eq, Drop)]
+#[derive(Clone, Copy, Debug, PartialEq, Eq, Drop, Error)]
 pub enum WordsFault {
     /// The words have none.
+    #[error("these words say no settings")]
     Refused,
     /// Want of memory.
+    #[error("out of memory")]
     Memory,
 }

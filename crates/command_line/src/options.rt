@@ -1,5 +1,22 @@
 //! The options of the command line, in one table: names, defaults, and the numbers that they take.
 
+use test_lang::test::{MAX_OPS, MAX_THREADS, MAX_WORDS};
+
+/// The most signatures that are checked together.
+pub const MAX_CHUNK: u64 = 1_000_000;
+
+/// The most threads that check.
+pub const MAX_WORKERS: u64 = 64;
+
+/// The most threads that play.
+pub const MAX_RUNNERS: u64 = 64;
+
+/// The most runs, played or recorded.
+pub const MAX_RUNS: u64 = 1_000_000;
+
+/// The most operations of a hundred that may be stores or fences.
+pub const MAX_SHARES: u32 = 100;
+
 /// An option: its name, and its text where the words have none.
 #[derive(Clone, Copy, Debug, PartialEq, Eq, Drop)]
 pub(crate) struct OptionRow {
@@ -39,7 +56,7 @@ pub(crate) const CHUNK: NumberRow = NumberRow {
         default: "64",
     },
     least: 1,
-    most: 1_000_000,
+    most: MAX_CHUNK,
 };
 
 pub(crate) const WORKERS: NumberRow = NumberRow {
@@ -48,7 +65,7 @@ pub(crate) const WORKERS: NumberRow = NumberRow {
         default: "1",
     },
     least: 1,
-    most: 64,
+    most: MAX_WORKERS,
 };
 
 pub(crate) const RUNNERS: NumberRow = NumberRow {
@@ -57,7 +74,7 @@ pub(crate) const RUNNERS: NumberRow = NumberRow {
         default: "1",
     },
     least: 1,
-    most: 64,
+    most: MAX_RUNNERS,
 };
 
 pub(crate) const RUNS: NumberRow = NumberRow {
@@ -66,7 +83,7 @@ pub(crate) const RUNS: NumberRow = NumberRow {
         default: "100",
     },
     least: 0,
-    most: 1_000_000,
+    most: MAX_RUNS,
 };
 
 pub(crate) const SEED: NumberRow = NumberRow {
@@ -84,7 +101,7 @@ pub(crate) const THREADS: NumberRow = NumberRow {
         default: "2",
     },
     least: 1,
-    most: 16,
+    most: MAX_THREADS as u64,
 };
 
 pub(crate) const OPS: NumberRow = NumberRow {
@@ -93,7 +110,7 @@ pub(crate) const OPS: NumberRow = NumberRow {
         default: "4",
     },
     least: 0,
-    most: 2048,
+    most: MAX_OPS as u64,
 };
 
 pub(crate) const WORDS: NumberRow = NumberRow {
@@ -102,7 +119,7 @@ pub(crate) const WORDS: NumberRow = NumberRow {
         default: "2",
     },
     least: 1,
-    most: 256,
+    most: MAX_WORDS as u64,
 };
 
 pub(crate) const STORES: NumberRow = NumberRow {
@@ -111,7 +128,7 @@ pub(crate) const STORES: NumberRow = NumberRow {
         default: "50",
     },
     least: 0,
-    most: 100,
+    most: MAX_SHARES as u64,
 };
 
 pub(crate) const FENCES: NumberRow = NumberRow {
@@ -120,7 +137,7 @@ pub(crate) const FENCES: NumberRow = NumberRow {
         default: "0",
     },
     least: 0,
-    most: 100,
+    most: MAX_SHARES as u64,
 };
 
 /// The options whose texts are names.
@@ -130,9 +147,3 @@ pub(crate) const NAMES: [OptionRow; 3] = [MODEL, TARGET, FAULT];
 pub(crate) const NUMBERS: [NumberRow; 10] = [
     CHUNK, WORKERS, RUNNERS, RUNS, SEED, THREADS, OPS, WORDS, STORES, FENCES,
 ];
-
-/// The most operations that a drawn test may have, in all its threads.
-pub(crate) const MAX_OPS: u32 = 2048;
-
-/// The most operations of a hundred that may be stores or fences.
-pub(crate) const MAX_SHARES: u32 = 100;

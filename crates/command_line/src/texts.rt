@@ -6,6 +6,7 @@ ghost use Rattle.command_line.specs.Options.{between, command_of, fault_of, mode
 use crate::meaning::Command;
 use test_lang::op::MemModel;
 use test_lang::target::{Fault, Target};
+use test_lang::test::MAX_OPS;
 use test_lang::text::numeral::whole_numeral;
 
 /// The command that a text names.
@@ -68,7 +69,7 @@ pub(crate) fn read_fault(text: &str) -> Option<Fault>
     let Some(node) = text.strip_prefix("stale:") else {
         return read_plain_fault(text);
     };
-    let node = read_number(node, 0, 2047)?;
+    let node = read_number(node, 0, u64::from(MAX_OPS) - 1)?;
     Some(Fault::Stale { node: node as u32 })
 }
 

@@ -1,5 +1,5 @@
 -- A directed graph as the list of its edges, in the order of adding.
-use Rattle.std.specs.Prelude.{◌≡◌, ◌≢◌, ◌==◌, ℕ, suc, ◌^◌, ◌<◌, ◌≤◌, List, Option, Some, None, All, Contains, count_by, sum_by, length, slice_index_or}
+use Rattle.std.specs.Prelude.{◌≡◌, ◌≢◌, ◌==◌, ℕ, suc, ◌^◌, ◌<◌, ◌≤◌, List, Option, Some, None, All, Contains, count_by, filter, map, sum_by, length, slice_index_or}
 
 -- The nodes are the numbers below `nodes`, and there is room for `room` edges. An edge is the pair of its source and its target.
 pub record Digraph : Type 0 where
@@ -31,6 +31,10 @@ out_degree edges node = count_by (λ e. e.0 == node) edges
 
 abbrev pub in_degree : List (ℕ × ℕ) → ℕ → ℕ
 in_degree edges node = count_by (λ e. e.1 == node) edges
+
+-- the targets of the edges from the node, in the order of adding
+abbrev pub targets_from : List (ℕ × ℕ) → ℕ → List ℕ
+targets_from edges node = map (λ e. e.1) (filter (λ e. e.0 == node) edges)
 
 -- the sums of these over the nodes of a list
 abbrev pub edges_out : List (ℕ × ℕ) → List ℕ → ℕ

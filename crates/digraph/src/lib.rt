@@ -11,7 +11,7 @@ mod step_count;
 
 pub use edge_list::Edges;
 pub use edge_test::Pairs;
-pub use linked_graph::Graph;
+pub use linked_graph::{Graph, NEAR};
 pub use node_list::Nodes;
 pub use step_count::Steps;
 

@@ -1,6 +1,6 @@
 //! Graphs whose edges stand in linked arrays.
-ghost use Rattle.std.specs.Prelude.{◌≡◌, ◌+◌, ◌<◌, ◌≤◌, [], ◌∷◌, ◌++◌, length, take, IfOk, is_some, if◌then◌else◌};
-ghost use Rattle.digraph.specs.Digraph.{IsDigraph, IsLastIn, IsLastOut, source_of, target_of};
+ghost use Rattle.std.specs.Prelude.{◌≡◌, ℕ, ◌+◌, ◌-◌, ◌*◌, ◌<◌, ◌≤◌, [], ◌∷◌, ◌++◌, length, slice_index, slice_index_or, take, min, IfOk, is_some, if◌then◌else◌};
+ghost use Rattle.digraph.specs.Digraph.{IsDigraph, IsLastIn, IsLastOut, in_degree, out_degree, source_of, target_of, targets_from};
 
 use crate::links::Links;
 use crate::step_count::Steps;
@@ -14,17 +14,32 @@ use std::sync::ledger::Ledger;
 pub struct Graph {
     sources: Links,
     targets: Links,
+    /// Four places for each node: the targets of its first edges, and the number of nodes in each place that is left. The fourth says nothing: it takes
+    /// each target behind the first three, so that no step branches on how many there are.
+    near: Vec<u32>,
+    out_degrees: Vec<u32>,
+    in_degrees: Vec<u32>,
+}
+
+/// So many targets of a node are at hand.
+pub const NEAR: usize = 3;
+
+/// The place for the target of an edge from the node, with so many edges before it.
+fn near_place(node: u32, before: u32) -> usize
+    ensures { result ≡ 4 * node + min before 3 }
+{
+    4 * node as usize + usize::min(before as usize, NEAR)
 }
 
 impl Model for Graph {
     ghost use Rattle.digraph.specs.Digraph.{Digraph};
-    ghost use Rattle.digraph.specs.KeyList.{ArePaired, digraph_of};
+    ghost use Rattle.digraph.specs.KeyList.{IsGraph, digraph_of};
 
     ghost Value = { Digraph };
 
     ghost view = { λ g. digraph_of g.sources g.targets };
 
-    ghost invariant = { λ g. ArePaired g.sources g.targets };
+    ghost invariant = { λ g. IsGraph g.sources g.targets g.near.items g.out_degrees.items g.in_degrees.items };
 }
 
 impl Graph {
@@ -36,6 +51,9 @@ impl Graph {
         Ok(Graph {
             sources: Links::with_room(alloc, nodes, edges)?,
             targets: Links::with_room(alloc, nodes, edges)?,
+            near: vec![in alloc; nodes; 4 * nodes as usize]?,
+            out_degrees: vec![in alloc; 0u32; nodes as usize]?,
+            in_degrees: vec![in alloc; 0u32; nodes as usize]?,
         })
     }
 
@@ -53,8 +71,26 @@ impl Graph {
         requires to { to < self.old.nodes }
         ensures { self.new ≡ record self.old { edges = self.old.edges ++ (from, to) ∷ [] } }
     {
+        let before = self.out_degrees[from as usize];
+        self.near[near_place(from, before)] = to;
+        self.out_degrees[from as usize] = before + 1;
+        self.in_degrees[to as usize] += 1;
         self.sources.push(from);
         self.targets.push(to);
+    }
+
+    /// Takes the last added edge away.
+    fn pop(&mut self)
+        requires { 0 < length self.old.edges }
+        ensures { let count = length self.old.edges in self.new ≡ record self.old { edges = take (count - 1) self.old.edges } }
+    {
+        let nodes = self.nodes();
+        let from = self.sources.pop();
+        let to = self.targets.pop();
+        let before = self.out_degrees[from as usize] - 1;
+        self.near[near_place(from, before)] = nodes;
+        self.out_degrees[from as usize] = before;
+        self.in_degrees[to as usize] -= 1;
     }
 
     /// Takes the last added edges away until so many are left, in time of the number taken away.
@@ -62,8 +98,9 @@ impl Graph {
         requires { edges ≤ length self.old.edges }
         ensures { self.new ≡ record self.old { edges = take edges self.old.edges } }
     {
-        self.sources.truncate(edges);
-        self.targets.truncate(edges);
+        while self.edges() > edges {
+            self.pop();
+        }
     }
 
     /// The number of nodes.
@@ -98,6 +135,35 @@ impl Graph {
         ensures inside { result < self.now.nodes }
     {
         self.targets.key(edge)
+    }
+
+    /// How many edges lead from the node.
+    pub fn out_degree(&self, node: u32) -> u32
+        requires { node < self.now.nodes }
+        ensures { result ≡ out_degree self.now.edges node }
+    {
+        self.out_degrees[node as usize]
+    }
+
+    /// How many edges lead to each node.
+    pub fn in_degrees(&self) -> &[u32]
+        ensures long { length result.now ≡ self.now.nodes }
+        ensures at { (node : ℕ) → node < self.now.nodes → slice_index result.now node ≡ in_degree self.now.edges node }
+    {
+        &self.in_degrees
+    }
+
+    /// The targets of the first edges that were added from the node, at most three, in the order of adding. In each place that is left stands the number
+    /// of nodes, which is no node. Each edge counts one step.
+    pub fn near_targets<L: Ledger>(&self, node: u32, steps: &mut Steps<L>) -> &[u32]
+        requires { node < self.now.nodes }
+        ensures long { length result.now ≡ 3 }
+        ensures at { (k : ℕ) → k < 3 → slice_index result.now k ≡ slice_index_or (targets_from self.now.edges node) k self.now.nodes }
+        ensures ticks { steps.new ≡ steps.old + min (out_degree self.now.edges node) 3 }
+    {
+        let place = near_place(node, 0);
+        steps.tick_times(u64::from(u32::min(self.out_degree(node), 3)));
+        &self.near[place..place + NEAR]
     }
 
     /// The last added edge whose source is the node.

@@ -10,7 +10,7 @@ use std::marker::Model;
 pub const NONE: u32 = u32::MAX;
 
 /// A list of keys below a fixed number, of fixed room.
-/// All but `with_room` and `truncate` take constant time.
+/// All but `with_room` take constant time.
 #[derive(Drop)]
 pub struct Links {
     count: u32,
@@ -68,25 +68,19 @@ impl Links {
         self.count = place + 1;
     }
 
-    fn pop(&mut self)
+    /// Takes the last key away.
+    pub fn pop(&mut self) -> u32
         requires { 0 < length self.old.keys }
-        ensures { let len = length self.old.keys in self.new ≡ record self.old { keys = take (len - 1) self.old.keys } }
+        ensures taken { let count = length self.old.keys in self.new ≡ record self.old { keys = take (count - 1) self.old.keys } }
+        ensures key { let count = length self.old.keys in result ≡ slice_index self.old.keys (count - 1) }
+        ensures inside { result < self.old.kinds }
+        ensures sound { IsKeyList self.new }
     {
         let place = self.count - 1;
         let key = self.keys[place as usize];
         self.last[key as usize] = self.previous[place as usize];
         self.count = place;
-    }
-
-    /// Takes the last keys away until so many are left, in time of the number taken away.
-    pub fn truncate(&mut self, len: u32)
-        requires { len ≤ length self.old.keys }
-        ensures taken { self.new ≡ record self.old { keys = take len self.old.keys } }
-        ensures sound { IsKeyList self.new }
-    {
-        while self.len() > len {
-            self.pop();
-        }
+        key
     }
 
     pub fn key(&self, place: u32) -> u32

@@ -41,4 +41,11 @@ impl<L: Ledger> Steps<L> {
     {
         self.book.add(&mut self.share, 1);
     }
+
+    /// Counts so many steps.
+    pub fn tick_times(&mut self, times: u64)
+        ensures { self.new ≡ self.old + times }
+    {
+        self.book.add(&mut self.share, times);
+    }
 }

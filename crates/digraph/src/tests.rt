@@ -147,3 +147,12 @@ fn a_test_tells_a_set_of_edges(rt: HostRuntime) {
     assert_eq!(rt; count_edges(&Ring(5)), 5);
     assert_eq!(rt; count_edges(&Ring(0)), 0);
 }
+
+#[test]
+fn sources_without_a_mark_get_one(rt: HostRuntime) {
+    let mut marks = [0, 0, 4];
+    Ring(3).mark_sources(1, 9, &mut marks);
+    assert_eq!(rt; marks, [9, 0, 4]);
+    Ring(3).mark_sources(0, 9, &mut marks);
+    assert_eq!(rt; marks, [9, 0, 4]);
+}

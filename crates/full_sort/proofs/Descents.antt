@@ -1,5 +1,5 @@
 -- A walk down the levels, which takes the least node each time, is the first shortest cycle.
-use Rattle.std.proofs.Common.{◌≡◌, ℕ, zero, suc, ◌+◌, ◌<◌, ◌≤◌, List, [], ◌∷◌, length, get_or, Contains, arith, sym, subst, inl, inr}
+use Rattle.std.proofs.Common.{◌≡◌, ℕ, zero, suc, ◌+◌, ◌<◌, ◌≤◌, List, [], ◌∷◌, length, get_or, Contains, arith, sym, subst, inl, inr, add-one}
 use Rattle.std.proofs.lemmas.Bool.{cases_eq, cases_order}
 use Rattle.orders.specs.Paths.{Linked}
 use Rattle.orders.specs.Orders.{NotAfter}
@@ -60,6 +60,24 @@ descent_distinct E n levels end c (suc (suc l)) (y ∷ rest) e d = (
   descent_distinct E n levels end y (suc l) rest d.0.has_level d.1,
 )
 
+-- so the nodes behind the first one are distinct, and each has a level
+descent_rest : (E : ℕ → ℕ → Type 0) (n : ℕ) (levels : List ℕ) (end c l : ℕ) (rest : List ℕ) → IsDescent E n levels end c l rest → IsDistinct rest
+descent_rest E n levels end c zero rest d = absurd d
+descent_rest E n levels end c (suc zero) [] d = tt
+descent_rest E n levels end c (suc zero) (y ∷ rest) d = absurd d
+descent_rest E n levels end c (suc (suc l)) [] d = absurd d
+descent_rest E n levels end c (suc (suc l)) (y ∷ rest) d = descent_distinct E n levels end y (suc l) rest d.0.has_level d.1
+
+descent_some : (E : ℕ → ℕ → Type 0) (n : ℕ) (levels : List ℕ) (end c l : ℕ) (rest : List ℕ) → IsDescent E n levels end c l rest → (z : ℕ) → Contains rest z → 1 ≤ get_or levels z 0
+descent_some E n levels end c zero rest d z h = absurd d
+descent_some E n levels end c (suc zero) [] d z h = absurd (Contains-nil z h)
+descent_some E n levels end c (suc zero) (y ∷ rest) d z h = absurd d
+descent_some E n levels end c (suc (suc l)) [] d z h = absurd d
+descent_some E n levels end c (suc (suc l)) (y ∷ rest) d z h = elim (Contains-cons_cases y rest z h) [
+  | inl same ↦ let level : get_or levels z 0 ≡ suc l = subst (λ (x : ℕ). get_or levels x 0 ≡ suc l) same d.0.has_level in omega (arith, level)
+  | inr r ↦ descent_some E n levels end y (suc l) rest d.1 z r
+]
+
 module _ (E : ℕ → ℕ → Type 0) (n end most : ℕ) (inside : (a b : ℕ) → E a b → (a < n) × (b < n)) (levels : List ℕ) (levelled : IsLevelled E n end most levels) where
   -- the level of a node is its distance, where that is small enough
   level_of : (x level : ℕ) → IsShortest E x end level → level ≤ most → get_or levels x 0 ≡ level
@@ -70,7 +88,7 @@ module _ (E : ℕ → ℕ → Type 0) (n end most : ℕ) (inside : (a b : ℕ) �
         | inr some ↦ same_distance E x end (get_or levels x 0) level (levelled.reached x lt some) s
       ]
 
-  distance_of : (c l : ℕ) → c < n → 1 ≤ l → get_or levels c 0 ≡ l → IsShortest E c end l
+  pub distance_of : (c l : ℕ) → c < n → 1 ≤ l → get_or levels c 0 ≡ l → IsShortest E c end l
   distance_of c l lt some e = subst (IsShortest E c end) e (levelled.reached c lt (λ z. omega (arith, some, e, z)))
 
   -- behind the first edge of a shortest path stands a node of the level below
@@ -86,44 +104,58 @@ module _ (E : ℕ → ℕ → Type 0) (n end most : ℕ) (inside : (a b : ℕ) �
   some_behind c l s some few (y ∷ rest) p count = (y, (inside c y p.0).1, below_first c l s y p.0 rest p.1 (omega (arith, count)) few, p.0)
 
   -- so there is a node to go down to
-  pub some_below : (c l : ℕ) → c < n → get_or levels c 0 ≡ l + 1 → 1 ≤ l → l ≤ most → (y : ℕ) × (y < n) × (get_or levels y 0 ≡ l) × E c y
-  some_below c l lt e some few =
-      let s : IsShortest E c end (suc l) = distance_of c (suc l) lt (omega arith) (omega (arith, e)) in
-      some_behind c l s some few s.path.0 s.path.1 s.path.2
+  pub some_below : (c l : ℕ) → IsShortest E c end (l + 1) → 1 ≤ l → l ≤ most → (y : ℕ) × (y < n) × (get_or levels y 0 ≡ l) × E c y
+  some_below c l s some few =
+      let t : IsShortest E c end (suc l) = subst (λ (m : ℕ). IsShortest E c end m) (add-one l) s in
+      some_behind c l t some few t.path.0 t.path.1 t.path.2
 
   -- and from the lowest level an edge leads to the end
-  pub last_edge : (c : ℕ) → c < n → get_or levels c 0 ≡ 1 → E c end
-  last_edge c lt e = let s = distance_of c 1 lt (omega arith) e in of_path s.path.0 s.path.1 s.path.2 where
+  pub last_edge : (c : ℕ) → IsShortest E c end 1 → E c end
+  last_edge c s = of_path s.path.0 s.path.1 s.path.2 where
     of_path : (between : List ℕ) → Linked E c between end → length between + 1 ≡ 1 → E c end
     of_path [] p count = p
     of_path (y ∷ between) p count = absurd (omega (arith, count))
 
-  descent_first : (c l : ℕ) (rest : List ℕ) → c < n → l ≤ most → get_or levels c 0 ≡ l → IsDescent E n levels end c l rest → (others : List ℕ) → Linked E c others end → length others ≡ length rest → NotAfter rest others
-  descent_first c zero rest lt few e d others p same = absurd d
-  descent_first c (suc zero) [] lt few e d others p same = tt
-  descent_first c (suc zero) (y ∷ rest) lt few e d others p same = absurd d
-  descent_first c (suc (suc l)) [] lt few e d others p same = absurd d
-  descent_first c (suc (suc l)) (y ∷ rest) lt few e d [] p same = absurd (omega (arith, same))
-  descent_first c (suc (suc l)) (y ∷ rest) lt few e d (z ∷ others) p same =
-      let s = distance_of c (suc (suc l)) lt (omega arith) e in
+  descent_first : (c l : ℕ) (rest : List ℕ) → l ≤ most + 1 → IsShortest E c end l → IsDescent E n levels end c l rest → (others : List ℕ) → Linked E c others end → length others ≡ length rest → NotAfter rest others
+  descent_first c zero rest few s d others p same = absurd d
+  descent_first c (suc zero) [] few s d others p same = tt
+  descent_first c (suc zero) (y ∷ rest) few s d others p same = absurd d
+  descent_first c (suc (suc l)) [] few s d others p same = absurd d
+  descent_first c (suc (suc l)) (y ∷ rest) few s d [] p same = absurd (omega (arith, same))
+  descent_first c (suc (suc l)) (y ∷ rest) few s d (z ∷ others) p same =
       let count = (descent_linked E n levels end y (suc l) rest d.1).1 in
       let level = below_first c (suc l) s z p.0 others p.1 (omega (arith, same, count)) (omega (arith, few)) in
+      let next = distance_of y (suc l) d.0.inside (omega arith) d.0.has_level in
       elim (cases_order y z) [
-        | inl equal ↦ inr (equal, descent_first y (suc l) rest d.0.inside (omega (arith, few)) d.0.has_level d.1 others (subst (λ (x : ℕ). Linked E x others end) (sym equal) p.1) (omega (arith, same)))
+        | inl equal ↦ inr (equal, descent_first y (suc l) rest (omega (arith, few)) next d.1 others (subst (λ (x : ℕ). Linked E x others end) (sym equal) p.1) (omega (arith, same)))
         | inr r ↦ elim r [
           | inl lower ↦ inl lower
           | inr higher ↦ absurd (d.0.least z higher level p.0)
         ]
       ]
 
+  -- the end itself has no level
+  end_open : (l : ℕ) → end < n → l ≡ most + 1 → IsShortest E end end l → get_or levels end 0 ≡ 0
+  end_open l lt e s = elim (cases_eq (get_or levels end 0) 0) [
+    | inl none ↦ none
+    | inr some ↦
+        let same = same_distance E end end (get_or levels end 0) l (levelled.reached end lt some) s in
+        let few = levelled.few end lt in
+        absurd (omega (arith, same, few, e))
+  ]
+
   -- the descent from the end, down to it again
-  pub descent_cycle : (more : List ℕ) → end < n → get_or levels end 0 ≡ most → IsDescent E n levels end end most more → IsFirstShortestCycle E end more
-  descent_cycle more lt e d =
-      let linked = descent_linked E n levels end end most more d in
+  pub descent_cycle : (more : List ℕ) (l : ℕ) → end < n → l ≡ most + 1 → IsShortest E end end l → IsDescent E n levels end end l more → IsFirstShortestCycle E end more
+  descent_cycle more l lt e s d =
+      let linked = descent_linked E n levels end end l more d in
       let count = linked.1 in
-      let s = distance_of end most lt (omega (arith, count)) e in
+      let none = end_open l lt e s in
+      let once : IsDistinct (end ∷ more) = (
+        (λ h. let some = descent_some E n levels end end l more d end h in omega (arith, some, none)),
+        descent_rest E n levels end end l more d,
+      ) in
       record {
-        is_cycle = (linked.0, pairs_of_distinct (end ∷ more) (descent_distinct E n levels end end most more e d));
+        is_cycle = (linked.0, pairs_of_distinct (end ∷ more) once);
         shortest = λ others c. let far = s.shortest others c.0 in omega (arith, far, count);
-        first = λ others c same. descent_first end most more lt (omega arith) e d others c.0 same;
+        first = λ others c same. descent_first end l more (omega (arith, e)) s d others c.0 same;
       }

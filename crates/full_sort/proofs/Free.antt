@@ -13,7 +13,7 @@ IsLeastFree window waiting marks None = (z : ℕ) → Contains window z → IsFr
 IsLeastFree window waiting marks (Some x) = Contains window x × IsFree waiting marks x × ((z : ℕ) → Contains window z → IsFree waiting marks z → x ≤ z)
 
 -- a bit that isn't 1 is 0
-bit-zero : (words : List ℕ) (n : ℕ) → (bit_of words n ≡ 1 → ⊥) → bit_of words n ≡ 0
+pub bit-zero : (words : List ℕ) (n : ℕ) → (bit_of words n ≡ 1 → ⊥) → bit_of words n ≡ 0
 bit-zero words n other = let lt = bit_at-lt (get_or words (n / 64) 0) (n % 64) in omega (arith, lt, other)
 
 -- marks of the window's nodes alone, where one is set and where one is cleared

@@ -5,7 +5,7 @@ use Rattle.orders.specs.Paths.{Linked}
 use Rattle.full_sort.specs.Levels.{HasPath, IsShortest, IsLevelled, Touches, AddsLevel, IsFront}
 
 -- a path of one edge more, behind an edge to a node of the front
-path_behind : (E : ℕ → ℕ → Type 0) (end k : ℕ) (list : List ℕ) → IsFront E end k list → (x : ℕ) → Touches E x list → HasPath E x end (suc k)
+pub path_behind : (E : ℕ → ℕ → Type 0) (end k : ℕ) (list : List ℕ) → IsFront E end k list → (x : ℕ) → Touches E x list → HasPath E x end (suc k)
 path_behind E end zero list front x t =
     let same : t.0 ≡ end = (front t.0).0 t.1 in
     ([], subst (E x) same t.2, omega arith)
@@ -43,42 +43,42 @@ first_inside E n inside x [] end p = (inside x end p).0
 first_inside E n inside x (y ∷ between) end p = (inside x y p.0).0
 
 module _ (E : ℕ → ℕ → Type 0) (n end : ℕ) (inside : (a b : ℕ) → E a b → (a < n) × (b < n)) where
-  module _ (k : ℕ) (list old new : List ℕ) (levelled : IsLevelled E n end k old) (front : IsFront E end k list) (adds : AddsLevel E n (suc k) list old new) where
+  module _ (k : ℕ) (list old new : List ℕ) (levelled : IsLevelled E n end k old) (front : IsFront E end k list) (adds : AddsLevel E (suc k) list old new) where
     level_few : (x : ℕ) → x < n → get_or new x 0 ≤ suc k
     level_few x lt = elim (cases_eq (get_or old x 0) 0) [
-      | inl none ↦ elim (adds.fresh x lt none) [ inl t ↦ let e = t.0 in omega (arith, e) | inr u ↦ let e = u.0 in omega (arith, e) ]
-      | inr some ↦ let same = adds.kept x lt some in let few = levelled.few x lt in omega (arith, same, few)
+      | inl none ↦ elim (adds.fresh x none) [ inl t ↦ let e = t.0 in omega (arith, e) | inr u ↦ let e = u.0 in omega (arith, e) ]
+      | inr some ↦ let same = adds.kept x some in let few = levelled.few x lt in omega (arith, same, few)
     ]
 
     level_reached : (x : ℕ) → x < n → get_or new x 0 ≢ 0 → IsShortest E x end (get_or new x 0)
     level_reached x lt ne = elim (cases_eq (get_or old x 0) 0) [
-      | inl none ↦ elim (adds.fresh x lt none) [
+      | inl none ↦ elim (adds.fresh x none) [
         | inl t ↦ subst (IsShortest E x end) (sym t.0) record {
           path = path_behind E end k list front x t.1;
           shortest = λ others o. let far = levelled.others x lt none others o in omega (arith, far);
         }
         | inr u ↦ absurd (ne u.0)
       ]
-      | inr some ↦ subst (IsShortest E x end) (sym (adds.kept x lt some)) (levelled.reached x lt some)
+      | inr some ↦ subst (IsShortest E x end) (sym (adds.kept x some)) (levelled.reached x lt some)
     ]
 
     level_others : (x : ℕ) → x < n → get_or new x 0 ≡ 0 → (between : List ℕ) → Linked E x between end → suc k < length between + 1
     level_others x lt zero_now between p = elim (cases_eq (get_or old x 0) 0) [
       | inl none ↦
           let far = levelled.others x lt none between p in
-          elim (adds.fresh x lt none) [
+          elim (adds.fresh x none) [
             | inl t ↦ let e = t.0 in absurd (omega (arith, e, zero_now))
             | inr u ↦ elim (cases_eq (length between) k) [
               | inl same ↦ absurd (u.1 (touches_front E end k list front x between p same (levelled.others x lt none)))
               | inr other ↦ omega (arith, far, other)
             ]
           ]
-      | inr some ↦ let same = adds.kept x lt some in absurd (some (sym same ∙ zero_now))
+      | inr some ↦ let same = adds.kept x some in absurd (some (sym same ∙ zero_now))
     ]
 
     pub levelled_more : IsLevelled E n end (suc k) new
     levelled_more = record {
-      whole = adds.whole ∙ levelled.whole;
+      whole = adds.room ∙ levelled.whole;
       few = level_few;
       reached = level_reached;
       others = level_others;

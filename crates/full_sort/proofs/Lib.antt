@@ -10,6 +10,7 @@ mod State
 mod Placing
 mod Cleaning
 pub mod LevelSteps
+mod Touching
 pub mod LevelLists
 pub mod Pigeons
 pub mod Measured
@@ -26,3 +27,5 @@ mod Strips
 mod Counted
 mod Gained
 mod Without
+mod Releases
+mod Holding

@@ -5,8 +5,8 @@ use Rattle.std.proofs.lemmas.List.Elements.{Contains-get_or}
 use Rattle.orders.specs.Paths.{Linked}
 use Rattle.orders.specs.Cycles.{IsOnCycle}
 use Rattle.orders.proofs.Members.{Contains-nil, Contains-head, Contains-cons_cases}
-use Rattle.full_sort.specs.Levels.{IsLevelled, AddsLevel, IsFront}
-use Rattle.full_sort.proofs.LevelSteps.{levelled_more, front_of_level, first_inside}
+use Rattle.full_sort.specs.Levels.{IsShortest, IsLevelled, Touches, AddsLevel, IsFront}
+use Rattle.full_sort.proofs.LevelSteps.{path_behind, levelled_more, front_of_level, first_inside}
 use Rattle.full_sort.proofs.LevelLists.{Lists}
 use Rattle.full_sort.proofs.Pigeons.{length-once-le}
 
@@ -27,15 +27,27 @@ pub front_inside : (E : ℕ → ℕ → Type 0) (n end : ℕ) → ((a b : ℕ) �
 front_inside E n end inside lt k list front = λ i d below. front_below E n end inside lt k list front (get_or list i d) (Contains-get_or list i d below)
 
 module _ (E : ℕ → ℕ → Type 0) (n end : ℕ) (inside : (a b : ℕ) → E a b → (a < n) × (b < n)) where
-  pub level_more : (k : ℕ) (list old new : List ℕ) → IsLevelled E n end k old → IsFront E end k list → AddsLevel E n (k + 1) list old new → IsLevelled E n end (k + 1) new
+  pub level_more : (k : ℕ) (list old new : List ℕ) → IsLevelled E n end k old → IsFront E end k list → AddsLevel E (k + 1) list old new → IsLevelled E n end (k + 1) new
   level_more k list old new levelled front adds =
       subst (λ (m : ℕ). IsLevelled E n end m new) (sym (add-one k))
-      (levelled_more E n end inside k list old new levelled front (subst (λ (m : ℕ). AddsLevel E n m list old new) (add-one k) adds))
+      (levelled_more E n end inside k list old new levelled front (subst (λ (m : ℕ). AddsLevel E m list old new) (add-one k) adds))
 
   pub front_more : (k : ℕ) (levels list : List ℕ) → IsLevelled E n end (k + 1) levels → Lists levels (k + 1) list n → IsFront E end (k + 1) list
   front_more k levels list levelled lists =
       subst (λ (m : ℕ). IsFront E end m list) (sym (add-one k))
       (front_of_level E n end inside k levels list (subst (λ (m : ℕ). IsLevelled E n end m levels) (add-one k) levelled) (subst (λ (m : ℕ). Lists levels m list n) (add-one k) lists))
+
+  -- where an edge leads from the end to the front, the shortest cycle through the end has one edge more
+  pub cycle_met : (k : ℕ) (levels list : List ℕ) → end < n → IsLevelled E n end k levels → IsFront E end k list → get_or levels end 0 ≡ 0 → Touches E end list → IsShortest E end end (k + 1)
+  cycle_met k levels list lt levelled front none t =
+      subst (λ (m : ℕ). IsShortest E end end m) (sym (add-one k)) record {
+        path = path_behind E end k list front end t;
+        shortest = λ others o. let far = levelled.others end lt none others o in omega (arith, far);
+      }
+
+  -- and where none does, the end gets no level
+  pub still_open : (level : ℕ) (list old new : List ℕ) → get_or old end 0 ≡ 0 → (Touches E end list → ⊥) → AddsLevel E level list old new → get_or new end 0 ≡ 0
+  still_open level list old new none apart adds = elim (adds.fresh end none) [ inl t ↦ absurd (apart t.1) | inr u ↦ u.0 ]
 
   linked_below : (x : ℕ) (between : List ℕ) (last : ℕ) → Linked E x between last → (y : ℕ) → Contains (x ∷ between) y → y < n
   linked_below x [] last p y h = elim (Contains-cons_cases x [] y h) [

@@ -78,7 +78,7 @@ module _ (es : List (ℕ × ℕ)) (n : ℕ) (r : Option ℕ) (last : IsLastOut e
 
 -- the walk stands at the edge e
 module _ (es : List (ℕ × ℕ)) (n e : ℕ) (here : IsWalk es n (Some e)) where
-  first-from : out_degree (drop e es) n ≡ out_degree (drop (suc e) es) n + 1
+  pub first-from : out_degree (drop e es) n ≡ out_degree (drop (suc e) es) n + 1
   first-from =
       let first = sum_by-drop_more (λ x. one_if (eqb x.0 n)) es e (0, 0) here.0 in
       let yes : one_if (eqb (source_of es e) n) ≡ 1 = rw (eq-eqb (source_of es e) n here.1) refl in
@@ -86,7 +86,7 @@ module _ (es : List (ℕ × ℕ)) (n e : ℕ) (here : IsWalk es n (Some e)) wher
       let suc_is : out_degree (drop (e + 1) es) n ≡ out_degree (drop (suc e) es) n = ap (λ (m : ℕ). out_degree (drop m es) n) (add-one e) in
       omega (arith, at, suc_is)
 
-  first-between : (t : ℕ) → count_between (drop e es) n t ≡ one_if (eqb (target_of es e) t) + count_between (drop (suc e) es) n t
+  pub first-between : (t : ℕ) → count_between (drop e es) n t ≡ one_if (eqb (target_of es e) t) + count_between (drop (suc e) es) n t
   first-between t =
       let first = sum_by-drop_more (λ x. one_if (eqb x.0 n && eqb x.1 t)) es e (0, 0) here.0 in
       let yes : one_if (eqb (source_of es e) n && eqb (target_of es e) t) ≡ one_if (eqb (target_of es e) t) = rw (eq-eqb (source_of es e) n here.1) refl in

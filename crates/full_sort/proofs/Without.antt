@@ -36,14 +36,14 @@ module _ (n : ℕ) where
   whole-marked = marked-all (replicate n true) (nodes_below n) (λ z h. all-marked z (All-contains (λ (x : ℕ). x < n) (nodes_below n) z (all-below n) h))
 
   -- none is placed yet
-  module _ (es : List (ℕ × ℕ)) (waiting : List ℕ) (counted : (t : ℕ) → get_or waiting t 0 ≡ in_degree es t) where
+  module _ (es : List (ℕ × ℕ)) (waiting : List ℕ) (counted : (t : ℕ) → t < n → get_or waiting t 0 ≡ in_degree es t) where
     pub whole-begin : All (λ e. (e.0 < n) × (e.1 < n)) es → IsState es (nodes_below n) [] n waiting (replicate n true)
     whole-begin ends =
         state-begin es (nodes_below n) n waiting (replicate n true)
         (record {
           only = λ t mark. has-below n t (marked-below t mark);
           counted = λ t lt.
-              counted t
+              counted t lt
               ∙ sym (into-degree es (nodes_below n) t (once-below n) (λ i d inside. has-below n _ (ends i d inside).0))
               ∙ ap (λ (xs : List ℕ). count_into es xs t) (sym whole-marked);
         })

@@ -1,6 +1,7 @@
 -- How far nodes are from a node along a set of edges.
-use Rattle.std.specs.Prelude.{◌≡◌, ◌≢◌, ◌↔◌, ◌⊎◌, ℕ, zero, suc, ◌+◌, ◌<◌, ◌≤◌, List, length, slice_index, Contains}
+use Rattle.std.specs.Prelude.{◌≡◌, ◌≢◌, ◌↔◌, ℕ, zero, suc, ◌+◌, ◌<◌, ◌≤◌, List, length, slice_index, Contains}
 use Rattle.orders.specs.Paths.{Linked}
+use Rattle.digraph.specs.Marks.{MarksWhere}
 
 -- a path of so many edges leads from the node to the end
 abbrev pub HasPath : (ℕ → ℕ → Type 0) → ℕ → ℕ → ℕ → Type 0
@@ -22,11 +23,9 @@ pub record IsLevelled (E : ℕ → ℕ → Type 0) (n end most : ℕ) (levels : 
 abbrev pub Touches : (ℕ → ℕ → Type 0) → ℕ → List ℕ → Type 0
 Touches E x list = (y : ℕ) × Contains list y × E x y
 
--- A level more: each node that had none and touches the list has it now.
-pub record AddsLevel (E : ℕ → ℕ → Type 0) (n level : ℕ) (list old new : List ℕ) : Type 0 where
-  pub whole : length new ≡ length old
-  pub kept : (x : ℕ) → x < n → slice_index old x ≢ 0 → slice_index new x ≡ slice_index old x
-  pub fresh : (x : ℕ) → x < n → slice_index old x ≡ 0 → ((slice_index new x ≡ level) × Touches E x list) ⊎ ((slice_index new x ≡ 0) × ¬ Touches E x list)
+-- a level more: each node that had none and touches the list has it now
+abbrev pub AddsLevel : (ℕ → ℕ → Type 0) → ℕ → List ℕ → List ℕ → List ℕ → Type 0
+AddsLevel E level list old new = MarksWhere (λ x. Touches E x list) level old new
 
 -- The nodes from which the shortest path to the end has so many edges: the end alone for none.
 abbrev pub IsFront : (ℕ → ℕ → Type 0) → ℕ → ℕ → List ℕ → Type 0

@@ -1,5 +1,6 @@
 pub mod Bits
 pub mod Waiting
+pub mod Ready
 pub mod Scratch
 pub mod Levels
 pub mod Finishing

@@ -3,17 +3,15 @@ ghost use Rattle.std.specs.Prelude.{◌≡◌, ◌<◌, ◌≤◌, ◌/◌, ◌*
 ghost use Rattle.std.specs.Bool.{OnTrue, OnFalse};
 ghost use Rattle.full_sort.specs.Bits.{bit_of, ChangesBit, IsFirstBit, IsSummed};
 
-/// Sets the bit of the number where the condition holds. Both ways take the same steps, since which one comes is hard to foresee.
-pub fn set_bit_if(words: &mut [u64], n: usize, condition: bool)
+/// Sets the bit of the number.
+pub fn set_bit(words: &mut [u64], n: usize)
     requires { n / 64 < length words.old }
-    ensures set { OnTrue condition (ChangesBit words.old words.new n 1) }
-    ensures kept { OnFalse condition (words.new ≡ words.old) }
+    ensures { ChangesBit words.old words.new n 1 }
 {
-    let bit = if condition { 1 << (n % 64) } else { 0 };
-    words[n / 64] |= bit;
+    words[n / 64] |= 1 << (n % 64);
 }
 
-/// Clears the bit of the number where the condition holds, in the same steps both ways.
+/// Clears the bit of the number where the condition holds. Both ways take the same steps, since which one comes is hard to foresee.
 pub fn clear_bit_if(words: &mut [u64], n: usize, condition: bool)
     requires { n / 64 < length words.old }
     ensures cleared { OnTrue condition (ChangesBit words.old words.new n 0) }
@@ -36,16 +34,15 @@ pub fn first_bit(words: &[u64]) -> Option<usize>
     None
 }
 
-/// Sets the bit of a node, and that of its word in the summary, where the condition holds.
-pub fn set_both_if(low: &mut [u64], high: &mut [u64], node: u32, condition: bool)
+/// Sets the bit of a node, and that of its word in the summary.
+pub fn set_both(low: &mut [u64], high: &mut [u64], node: u32)
     requires summed { IsSummed low.old high.old }
     requires room { node < 64 * length low.old }
     ensures summed { IsSummed low.new high.new }
-    ensures set { OnTrue condition (ChangesBit low.old low.new node 1) }
-    ensures kept { OnFalse condition (low.new ≡ low.old) }
+    ensures change { ChangesBit low.old low.new node 1 }
 {
-    set_bit_if(low, node as usize, condition);
-    set_bit_if(high, node as usize / 64, condition);
+    set_bit(low, node as usize);
+    set_bit(high, node as usize / 64);
 }
 
 /// Clears the bit of a node of the set, and that of its word in the summary where that is then 0.

@@ -1,7 +1,7 @@
 //! Distances of nodes from a node, level by level.
-ghost use Rattle.std.specs.Prelude.{◌≡◌, ◌↔◌, ℕ, ◌+◌, ◌<◌, ◌≤◌, length, slice_index, take, All, Contains, IsTrue};
+ghost use Rattle.std.specs.Prelude.{◌≡◌, ◌↔◌, ℕ, ◌+◌, ◌-◌, ◌<◌, ◌≤◌, length, slice_index, take, All, Contains, IsTrue};
 ghost use Rattle.orders.specs.Cycles.{IsOnCycle};
-ghost use Rattle.full_sort.specs.Levels.{AddsLevel, IsLevelled, Touches};
+ghost use Rattle.full_sort.specs.Levels.{AddsLevel, IsLevelled, IsShortest, Touches};
 
 use digraph::Pairs;
 
@@ -23,12 +23,10 @@ fn touches<P: Pairs>(pairs: &P, node: u32, list: &[u32]) -> bool
 fn add_level<P: Pairs>(pairs: &P, list: &[u32], level: u32, levels: &mut [u32])
     requires list { All (λ y. y < P.node_count pairs.now) list.now }
     requires levels { length levels.old ≡ P.node_count pairs.now }
-    ensures { AddsLevel (P.edges pairs.now) (P.node_count pairs.now) level list.now levels.old levels.new }
+    ensures { AddsLevel (P.edges pairs.now) level list.now levels.old levels.new }
 {
-    for node in 0..pairs.nodes() {
-        if levels[node as usize] == 0 && touches(pairs, node, list) {
-            levels[node as usize] = level;
-        }
+    for target in list {
+        pairs.mark_sources(*target, level, levels);
     }
 }
 
@@ -49,16 +47,16 @@ fn list_level(nodes: u32, levels: &[u32], level: u32, list: &mut [u32]) -> usize
     count
 }
 
-/// Gives each node its distance to the end, up to the length of the shortest cycle through the end, and answers that length. The levels are 0 before, and
-/// `list` is room for a list of nodes.
+/// Gives each node its distance to the end, as far as that is below the length of the shortest cycle through the end, and answers that length. The
+/// levels are 0 before, and `list` is room for a list of nodes.
 pub fn measure<P: Pairs>(pairs: &P, end: u32, levels: &mut [u32], list: &mut [u32]) -> u32
     requires cycle { IsOnCycle (P.edges pairs.now) end }
     requires end { end < P.node_count pairs.now }
     requires levels { length levels.old ≡ P.node_count pairs.now }
     requires clear { (t : ℕ) → slice_index levels.old t ≡ 0 }
     requires list { length list.old ≡ P.node_count pairs.now }
-    ensures levelled { IsLevelled (P.edges pairs.now) (P.node_count pairs.now) end result levels.new }
-    ensures length { slice_index levels.new end ≡ result }
+    ensures levelled { IsLevelled (P.edges pairs.now) (P.node_count pairs.now) end (result - 1) levels.new }
+    ensures length { IsShortest (P.edges pairs.now) end end result }
     ensures some { 1 ≤ result }
     ensures few { result ≤ P.node_count pairs.now }
 {
@@ -67,10 +65,10 @@ pub fn measure<P: Pairs>(pairs: &P, end: u32, levels: &mut [u32], list: &mut [u3
     let mut count = 1;
     for done in 0..nodes {
         let level = done + 1;
-        add_level(pairs, &list[..count], level, levels);
-        if levels[end as usize] != 0 {
+        if touches(pairs, end, &list[..count]) {
             return level;
         }
+        add_level(pairs, &list[..count], level, levels);
         count = list_level(nodes, levels, level, list);
     }
     unreachable!()

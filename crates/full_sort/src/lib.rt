@@ -7,6 +7,8 @@ mod cyclic;
 mod finishing;
 mod levels;
 mod node_set;
+mod ready;
+mod releasing;
 mod shortest;
 mod sorting;
 mod waiting;

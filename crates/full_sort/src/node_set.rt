@@ -1,9 +1,8 @@
 //! A set of nodes whose least is found at once, as bits in two levels.
 ghost use Rattle.std.specs.Prelude.{◌≡◌, ℕ, ◌*◌, ◌<◌, ◌≤◌, List, length, IfOk, None};
-ghost use Rattle.std.specs.Bool.{OnTrue, OnFalse};
-ghost use Rattle.full_sort.specs.Bits.{ChangesBit, IsFirstBit, TakesLeast};
+ghost use Rattle.full_sort.specs.Bits.{ChangesBit, IsFirstBit, TakesLeast, bit_of};
 
-use crate::bits::{clear_both, least_of, set_both_if};
+use crate::bits::{clear_both, least_of, set_both};
 use std::alloc::{AllocError, Global};
 use std::marker::Model;
 
@@ -42,16 +41,22 @@ impl NodeSet {
         requires { node < 64 * length self.old }
         ensures { ChangesBit self.old self.new node 1 }
     {
-        self.insert_if(node, true);
+        set_both(&mut self.low, &mut self.high, node);
     }
 
-    /// Takes the node into the set where the condition holds.
-    pub fn insert_if(&mut self, node: u32, condition: bool)
-        requires { node < 64 * length self.old }
-        ensures taken { OnTrue condition (ChangesBit self.old self.new node 1) }
-        ensures kept { OnFalse condition (self.new ≡ self.old) }
+    /// The least node of the set.
+    pub fn least(&self) -> Option<u32>
+        ensures { IsFirstBit self.now result }
     {
-        set_both_if(&mut self.low, &mut self.high, node, condition);
+        least_of(&self.low, &self.high)
+    }
+
+    /// Takes a node of the set out of it.
+    pub fn remove(&mut self, node: u32)
+        requires { bit_of self.old node ≡ 1 }
+        ensures { ChangesBit self.old self.new node 0 }
+    {
+        clear_both(&mut self.low, &mut self.high, node);
     }
 
     /// Takes the least node out of the set.

@@ -1,7 +1,7 @@
 //! The first shortest cycle from a node.
-ghost use Rattle.std.specs.Prelude.{◌≡◌, ℕ, ◌<◌, ◌≤◌, List, ◌∷◌, length, slice_index};
+ghost use Rattle.std.specs.Prelude.{◌≡◌, ℕ, ◌-◌, ◌<◌, ◌≤◌, List, ◌∷◌, length, slice_index};
 ghost use Rattle.orders.specs.Cycles.{IsFirstShortestCycle, IsOnCycle};
-ghost use Rattle.full_sort.specs.Levels.{IsLevelled};
+ghost use Rattle.full_sort.specs.Levels.{IsLevelled, IsShortest};
 
 use crate::levels::measure;
 use digraph::{Nodes, Pairs};
@@ -27,8 +27,8 @@ fn least_of_level<P: Pairs>(pairs: &P, node: u32, levels: &[u32], level: u32) ->
 /// Goes down the levels from the node and back to it, to the least node each time.
 fn descend<P: Pairs>(pairs: &P, start: u32, distance: u32, levels: &[u32], cycle: &mut Nodes)
     requires start { start < P.node_count pairs.now }
-    requires levelled { IsLevelled (P.edges pairs.now) (P.node_count pairs.now) start distance levels.now }
-    requires length { slice_index levels.now start ≡ distance }
+    requires levelled { IsLevelled (P.edges pairs.now) (P.node_count pairs.now) start (distance - 1) levels.now }
+    requires length { IsShortest (P.edges pairs.now) start start distance }
     requires some { 1 ≤ distance }
     requires few { distance ≤ P.node_count pairs.now }
     requires room { P.node_count pairs.now ≤ cycle.old.room }

@@ -26,8 +26,9 @@ pub struct Scratch {
     marks: Vec<bool>,
     ready: NodeSet,
     placed: Vec<u32>,
-    all: Vec<u32>,
     queue: Vec<u32>,
+    /// Counts of edges for the order of all nodes, and one more for no node. They may hold anything.
+    counts: Vec<u32>,
 }
 
 impl Model for Scratch {
@@ -38,8 +39,8 @@ impl Model for Scratch {
 
     ghost view = { λ s. length s.waiting.items };
 
-    ghost invariant = { λ s.
-        IsScratch s.waiting.items s.marks.items s.ready s.placed.items s.all.items s.queue.items };
+    ghost invariant = { λ s. IsScratch s.waiting.items s.marks.items s.ready s.placed.items s.queue.items
+        s.counts.items };
 }
 
 impl Scratch {
@@ -52,24 +53,21 @@ impl Scratch {
         let ready = NodeSet::new(alloc, nodes)?;
         let placed = vec![in alloc; 0u32; nodes as usize]?;
         let queue = vec![in alloc; 0u32; nodes as usize]?;
-        let mut all = Vec::with_capacity(alloc, nodes as usize)?;
-        for node in 0..nodes {
-            all.push(node)?;
-        }
+        let counts = vec![in alloc; 0u32; nodes as usize + 1]?;
         Ok(Scratch {
             waiting,
             marks,
             ready,
             placed,
-            all,
             queue,
+            counts,
         })
     }
 }
 
 /// Puts the least order of all nodes of the graph into `order`, and says whether there is one.
-/// This is Kahn's algorithm, which takes the least ready node each time. Each edge ticks twice: it is
-/// counted and taken back.
+/// This is Kahn's algorithm, which takes the least ready node each time. Each edge ticks once, where its source is placed: how many edges lead
+/// to each node is at hand.
 pub fn least_order_into<L: Ledger>(
     graph: &Graph,
     scratch: &mut Scratch,
@@ -84,15 +82,13 @@ pub fn least_order_into<L: Ledger>(
         (HasNoOrder (HasEdge graph.now.edges) (nodes_below graph.now.nodes)) }
     ensures unchanged { OnFalse result (order.new ≡ order.old) }
     ensures room { scratch.new ≡ scratch.old }
-    ensures ticks { steps.new ≡ steps.old + 2 * length graph.now.edges }
-    ensures bound { steps.new ≤ steps.old + 3 * length graph.now.edges }
+    ensures ticks { OnTrue result (steps.new ≡ steps.old + length graph.now.edges) }
+    ensures bound { steps.new ≤ steps.old + length graph.now.edges }
 {
     let _edges = graph.edges();
     order_all_into(
         graph,
-        &scratch.all,
-        &mut scratch.waiting,
-        &mut scratch.marks,
+        &mut scratch.counts,
         &mut scratch.ready,
         &mut scratch.placed,
         order,

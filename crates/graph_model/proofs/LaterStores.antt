@@ -13,12 +13,12 @@ use Rattle.test_lang.proofs.CandidateKinds.{IsCandidate, inside_candidate}
 use Rattle.test_lang.proofs.CandidateKinds.IsCandidate.{initial, own, other}
 
 -- the two kinds of edges from a load to a store
-abbrev IsBefore : Program → List ℕ → ℕ → ℕ → Type 0
+abbrev pub IsBefore : Program → List ℕ → ℕ → ℕ → Type 0
 IsBefore p run a b =
     ((store : ℕ) × IsLaterOf p run a b store)
     ⊎ (((is_load_at p a ≡ true) × (value_read p run a ≡ 0)) × ((is_store_at p b ≡ true) × (one_word p a b ≡ true)))
 
-decides_before : (p : Program) (run : List ℕ) (a b : ℕ) → Decides (is_before_later p run a b || is_before_any p run a b) (IsBefore p run a b)
+pub decides_before : (p : Program) (run : List ℕ) (a b : ℕ) → Decides (is_before_later p run a b || is_before_any p run a b) (IsBefore p run a b)
 decides_before p run a b = Decides-or (is_before_later p run a b) (is_before_any p run a b) (decides_later p run a b) (decides_any p run a b)
 
 decides_itself : (b : Bool) → Decides b (b ≡ true)

@@ -15,3 +15,5 @@ pub mod LoadLists
 pub mod RunOrders
 pub mod RunGraphs
 pub mod RunVerdicts
+pub mod WordLoads
+pub mod RunSources

@@ -10,14 +10,14 @@ use Rattle.std.proofs.lemmas.Option.{get_or_from_slice_get}
 use Rattle.orders.specs.Orders.{nodes_below}
 use Rattle.orders.proofs.Below.{length-below}
 use Rattle.test_lang.specs.declared.op.Op.{Op}
-use Rattle.test_lang.specs.declared.op.Op.TheVariants.{Load}
+use Rattle.test_lang.specs.declared.op.Op.TheVariants.{Load, Store, Fence}
 use Rattle.test_lang.specs.Program.{Program, nodes, op_at, op_count, at_node, passes, passes_after}
-use Rattle.test_lang.specs.Values.{is_store, is_of, same_word, is_store_at, is_load_at, value_of, rank_of, load_nodes, store_count}
+use Rattle.test_lang.specs.Values.{is_store, is_store_to, same_word, is_store_at, is_load_at, value_of, rank_of, load_nodes, store_count}
 use Rattle.test_lang.specs.Runs.{value_read, writes_for, IsInside}
 use Rattle.digraph.specs.Roomed.{Roomed}
 use Rattle.graph_model.specs.FewKept.{edge_to}
 use Rattle.graph_model.specs.LoadEdges.{first_store, store_of, edges_to_first_stores, edges_by_store, edges_of_load}
-use Rattle.graph_model.specs.StoreTables.{is_store_to, first_store_to, HasFirstStores}
+use Rattle.graph_model.specs.StoreTables.{is_thread_store, first_store_to, HasFirstStores}
 use Rattle.graph_model.proofs.Found.{find-same}
 use Rattle.graph_model.proofs.LaterStores.{value_read-le}
 use Rattle.graph_model.proofs.LoadEdges.{edges_of_initial, edges_of_value, store_of-value}
@@ -26,20 +26,27 @@ use Rattle.graph_model.proofs.Sizes.{length-flat_map_le, length-edge_to}
 -- the table tells a thread's first store to the word of the load
 
 store_to_from : (load y : Option (ℕ × Op)) (x t : ℕ) → option_map (λ (node : ℕ × Op). node.1) load ≡ Some (Load x) →
-    passes (λ node. (node.0 == t) && (is_of x node.1 && is_store node.1)) y
+    passes (λ node. (node.0 == t) && is_store_to x node.1) y
     ≡ ((passes (λ node. is_store node.1) y && passes_after (λ first second. same_word first.1 second.1) load y) && passes (λ node. node.0 == t) y)
 store_to_from None y x t e = absurd cc
 store_to_from (Some l) None x t e = refl
 store_to_from (Some l) (Some y) x t e =
     let op : Load x ≡ l.1 = cc in
-    swap (y.0 == t) (is_of x y.1) (is_store y.1) ∙ ap (λ (o : Op). (is_store y.1 && same_word o y.1) && (y.0 == t)) op
+    swap (y.0 == t) (is_store_to x y.1)
+    ∙ ap (λ (b : Bool). b && (y.0 == t)) (stores_of x y.1)
+    ∙ ap (λ (o : Op). (is_store y.1 && same_word o y.1) && (y.0 == t)) op
   where
-    swap : (a b c : Bool) → (a && (b && c)) ≡ ((c && b) && a)
-    swap a b c = grind (arith, nat_tests)
+    swap : (a b : Bool) → (a && b) ≡ (b && a)
+    swap a b = grind (arith, nat_tests)
+
+    stores_of : (x : ℕ) (op : Op) → is_store_to x op ≡ (is_store op && same_word (Load x) op)
+    stores_of x (Load word) = refl
+    stores_of x (Store word) = refl
+    stores_of x Fence = refl
 
 pub first_store_told : (p : Program) (load x t : ℕ) → op_at p load ≡ Some (Load x) → first_store_to p x t ≡ first_store p load t
 first_store_told p load x t e =
-    find-same (is_store_to p x t) (λ n. writes_for p load n && at_node (λ node. node.0 == t) p n)
+    find-same (is_thread_store p x t) (λ n. writes_for p load n && at_node (λ node. node.0 == t) p n)
     (λ n. store_to_from (slice_get (nodes p) load) (slice_get (nodes p) n) x t e) (op_count p)
 
 -- the edges to the first stores so far

@@ -9,12 +9,12 @@ use Rattle.orders.specs.Orders.{nodes_below}
 use Rattle.test_lang.specs.declared.op.Op.{Op}
 use Rattle.test_lang.specs.declared.op.Op.TheVariants.{Store}
 use Rattle.test_lang.specs.Program.{Program, nodes, op_at, thread_at, op_count, passes, passes_after}
-use Rattle.test_lang.specs.Values.{is_store, is_of, same_word, is_store_at, same_thread, one_word}
+use Rattle.test_lang.specs.Values.{is_store, is_store_to, same_word, is_store_at, same_thread, one_word}
 use Rattle.test_lang.proofs.Nodes.{node_at}
 use Rattle.graph_model.specs.declared.kinds.Kind.TheVariants.{StoreOfWord}
 use Rattle.graph_model.specs.FewKept.{is_kind_beside, next_of_kind}
 use Rattle.graph_model.specs.LoadEdges.{next_store}
-use Rattle.graph_model.specs.StoreTables.{is_store_to}
+use Rattle.graph_model.specs.StoreTables.{is_thread_store}
 use Rattle.graph_model.proofs.Near.{first_from-some, first_found}
 use Rattle.graph_model.proofs.Beside.{Is, both}
 use Rattle.graph_model.proofs.Found.{find_below-is, find_below-none, find_below-suc}
@@ -117,17 +117,16 @@ module _ (threads w t v u : ℕ) (in_range : t < threads) (in_range' : u < threa
 
 -- whether a store is one of the thread to the word
 
-store_to_is : (p : Program) (n u x word thread : ℕ) → Is p n u (Store x) → is_store_to p word thread n ≡ ((u == thread) && ((word == x) && true))
-store_to_is p n u x word thread is = ap (passes (λ node. (node.0 == thread) && (is_of word node.1 && is_store node.1))) is
+store_to_is : (p : Program) (n u x word thread : ℕ) → Is p n u (Store x) → is_thread_store p word thread n ≡ ((u == thread) && (word == x))
+store_to_is p n u x word thread is = ap (passes (λ node. (node.0 == thread) && is_store_to word node.1)) is
 
-store_to_true : (u x word thread : ℕ) → u ≡ thread → word ≡ x → ((u == thread) && ((word == x) && true)) ≡ true
+store_to_true : (u x word thread : ℕ) → u ≡ thread → word ≡ x → ((u == thread) && (word == x)) ≡ true
 store_to_true u x word thread e f = grind (arith, nat_tests)
 
-store_to_false : (u x word thread : ℕ) → (u ≡ thread → word ≡ x → ⊥) → ((u == thread) && ((word == x) && true)) ≡ false
-store_to_false u x word thread h = not_true ((u == thread) && ((word == x) && true)) (λ yes.
-    let parts = both (u == thread) ((word == x) && true) yes in
-    let more = both (word == x) true parts.1 in
-    h (eqb-true u thread parts.0) (eqb-true word x more.0))
+store_to_false : (u x word thread : ℕ) → (u ≡ thread → word ≡ x → ⊥) → ((u == thread) && (word == x)) ≡ false
+store_to_false u x word thread h = not_true ((u == thread) && (word == x)) (λ yes.
+    let parts = both (u == thread) (word == x) yes in
+    h (eqb-true u thread parts.0) (eqb-true word x parts.1))
 
 or_none : (o : Option ℕ) → option_or o None ≡ o
 or_none None = refl
@@ -137,7 +136,7 @@ or_none (Some x) = refl
 pub store_noted : (p : Program) (n x u place : ℕ) (table : List (Option ℕ)) (new : Option ℕ) → op_at p n ≡ Some (Store x) → thread_at p n ≡ Some u → u < length p.threads →
     place ≡ x * length p.threads + u → place < length table → new ≡ option_or (get_or table place None) (Some n) → (word thread : ℕ) → thread < length p.threads →
     get_or (set table place new) (word * length p.threads + thread) None
-    ≡ option_or (get_or table (word * length p.threads + thread) None) (cond (is_store_to p word thread n) (Some n) None)
+    ≡ option_or (get_or table (word * length p.threads + thread) None) (cond (is_thread_store p word thread n) (Some n) None)
 store_noted p n x u place table new op in_thread range at inside e word thread range' =
     let is : Is p n u (Store x) = node_at p n u (Store x) in_thread op in
     elim (cases_eq (word * length p.threads + thread) place) [
@@ -161,14 +160,14 @@ store_noted p n x u place table new op in_thread range at inside e word thread r
     ]
 
 -- so the table has the first stores among the nodes so far
-pub firsts_more : (p : Program) (n word thread : ℕ) (old new : Option ℕ) → old ≡ find (is_store_to p word thread) (nodes_below n) →
-    new ≡ option_or old (cond (is_store_to p word thread n) (Some n) None) → new ≡ find (is_store_to p word thread) (nodes_below (n + 1))
+pub firsts_more : (p : Program) (n word thread : ℕ) (old new : Option ℕ) → old ≡ find (is_thread_store p word thread) (nodes_below n) →
+    new ≡ option_or old (cond (is_thread_store p word thread n) (Some n) None) → new ≡ find (is_thread_store p word thread) (nodes_below (n + 1))
 firsts_more p n word thread old new e f =
     let next : suc n ≡ n + 1 = omega arith in
     f
-    ∙ ap (λ (o : Option ℕ). option_or o (cond (is_store_to p word thread n) (Some n) None)) e
-    ∙ sym (find_below-suc (is_store_to p word thread) n)
-    ∙ ap (λ (k : ℕ). find (is_store_to p word thread) (nodes_below k)) next
+    ∙ ap (λ (o : Option ℕ). option_or o (cond (is_thread_store p word thread n) (Some n) None)) e
+    ∙ sym (find_below-suc (is_thread_store p word thread) n)
+    ∙ ap (λ (k : ℕ). find (is_thread_store p word thread) (nodes_below k)) next
 
 -- a table that was lent as a slice, as it comes back
 pub lent_back : (len : ℕ) (new old : List (Option ℕ)) → length new ≡ length old → len ≡ length old → take len (new ++ drop (length new) old) ≡ new

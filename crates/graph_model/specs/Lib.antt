@@ -2,6 +2,7 @@ pub mod FirstLast
 pub mod FewKept
 pub mod WordTables
 pub mod NearestNodes
+pub mod WordLoads
 pub mod LoadEdges
 pub mod StoreTables
 pub mod StaticGraph

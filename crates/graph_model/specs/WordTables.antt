@@ -1,13 +1,7 @@
 -- Tables with an entry for each word.
-use Rattle.std.specs.Prelude.{ℕ, ◌<◌, List, Option, None, slice_index_or}
+use Rattle.std.specs.Prelude.{ℕ, List, Option, None, slice_index_or}
 use Rattle.test_lang.specs.declared.op.Op.{Op}
 use Rattle.test_lang.specs.declared.op.Op.TheVariants.{Load, Store, Fence}
-
--- the word of the operation, if it has one, is below n
-abbrev pub HasWordBelow : ℕ → Op → Type 0
-HasWordBelow n (Load word) = word < n
-HasWordBelow n (Store word) = word < n
-HasWordBelow n Fence = Unit {0}
 
 -- what stands at the word of the operation, if it has one
 abbrev pub at_word : List (Option ℕ) → Op → Option ℕ

@@ -106,7 +106,8 @@ fn add_all_into(
     requires nodes { graph.old.nodes ≡ op_count test.now }
     requires empty { graph.old.edges ≡ [] }
     requires room { 4 * op_count test.now ≤ graph.old.room }
-    ensures { OnOk result (graph.new ≡ with_edges graph.old (flat_map (edges_into model test.now) (nodes_below (op_count test.now)))) }
+    ensures { OnOk result (graph.new ≡ with_edges graph.old
+        (flat_map (edges_into model test.now) (nodes_below (op_count test.now)))) }
 {
     let mut nearest = Nearest::new(alloc, test.words())?;
     for node in 0..test.ops() {
@@ -126,7 +127,9 @@ fn add_all_onward(
 ) -> Result<(), AllocError>
     requires nodes { graph.old.nodes ≡ op_count test.now }
     requires room { length graph.old.edges + op_count test.now ≤ graph.old.room }
-    ensures { OnOk result (graph.new ≡ with_edges graph.old (flat_map (λ k. edges_onward model test.now (op_count test.now - suc k)) (nodes_below (op_count test.now)))) }
+    ensures { OnOk result (graph.new ≡ with_edges graph.old (flat_map
+        (λ k. edges_onward model test.now (op_count test.now - suc k))
+        (nodes_below (op_count test.now)))) }
 {
     let mut nearest = Nearest::new(alloc, test.words())?;
     for node in (0..test.ops()).rev() {
@@ -139,7 +142,8 @@ fn add_all_onward(
 
 /// The graph of a few kept pairs.
 pub(crate) fn kept_graph(alloc: Global, test: &Test, model: MemModel) -> Result<Graph, AllocError>
-    ensures { IfOk result (λ g. (g.nodes ≡ op_count test.now) × (g.edges ≡ few_kept model test.now)) }
+    ensures { IfOk result
+        (λ g. (g.nodes ≡ op_count test.now) × (g.edges ≡ few_kept model test.now)) }
 {
     let ops = test.ops();
     let mut graph = Graph::with_room(alloc, ops, 4 * ops)?;

@@ -7,8 +7,10 @@ mod kinds;
 mod nearest;
 mod reduction;
 mod run_edges;
+mod run_sources;
 mod static_graph;
 mod store_tables;
+mod word_loads;
 
 pub use kept_order::kept;
 pub use reduction::{few_edges_order_a_run, verdicts_of_a_run};

@@ -1,6 +1,7 @@
 //! The node of each kind that was met last, on a way through the nodes in either direction.
 ghost use Rattle.std.specs.Prelude.{◌≡◌, length};
-ghost use Rattle.graph_model.specs.WordTables.{HasWordBelow, at_word};
+ghost use Rattle.test_lang.specs.Program.{HasWordBelow};
+ghost use Rattle.graph_model.specs.WordTables.{at_word};
 
 use crate::kinds::Kind;
 use std::alloc::{AllocError, Global};
@@ -44,7 +45,8 @@ impl Nearest {
     pub fn meet(&mut self, node: u32, op: Op)
         requires { HasWordBelow (length self.old.loads.items) op }
         ensures room { length self.new.loads.items ≡ length self.old.loads.items }
-        ensures told { (f : (Op → Bool) → Option ℕ) → Tells f self.old → Tells (with_node f node op) self.new }
+        ensures told { (f : (Op → Bool) → Option ℕ) →
+            Tells f self.old → Tells (with_node f node op) self.new }
     {
         self.any = Some(node);
         match op {

@@ -11,7 +11,7 @@ use test_lang::op::{MemModel, Op};
 use test_lang::test::Test;
 
 /// The value that a load gives in the run.
-fn value_of_load(test: &Test, run: &[u32], load: u32) -> u32
+pub(crate) fn value_of_load(test: &Test, run: &[u32], load: u32) -> u32
     requires inside { IsInside test.now run.now }
     requires is_load { IsTrue (is_load_at test.now load) }
     ensures { result ≡ value_read test.now run.now load }
@@ -48,7 +48,7 @@ fn is_later(test: &Test, store: u32, later: u32) -> bool
 
 /// Whether `from` is a load, and `to` a store that is known to be later than what the load gives: later in the thread of the store whose value
 /// it gives, or any store to its word where it gives the initial value.
-fn comes_before(test: &Test, run: &[u32], from: u32, to: u32) -> bool
+pub(crate) fn comes_before(test: &Test, run: &[u32], from: u32, to: u32) -> bool
     requires inside { IsInside test.now run.now }
     requires first { from < op_count test.now }
     requires second { to < op_count test.now }

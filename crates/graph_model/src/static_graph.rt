@@ -5,6 +5,7 @@ ghost use Rattle.graph_model.specs.StaticGraph.{IsStaticGraph};
 
 use crate::few_kept::kept_graph;
 use crate::store_tables::{first_stores, next_stores};
+use crate::word_loads::WordLoads;
 use digraph::Graph;
 use std::alloc::{AllocError, Global};
 use std::marker::Model;
@@ -31,6 +32,7 @@ pub struct Static {
     next_stores: Vec<Option<u32>>,
     /// For each word and each thread, the thread's first store to the word.
     first_stores: Vec<Option<u32>>,
+    loads: WordLoads,
 }
 
 impl Model for Static {
@@ -43,7 +45,7 @@ impl Model for Static {
 
     ghost view = { λ s. record { test = s.test; model = s.model; graph = s.graph } };
 
-    ghost invariant = { λ s. IsTabled (record { test = s.test; model = s.model; graph = s.graph }) s.next_stores.items s.first_stores.items };
+    ghost invariant = { λ s. IsTabled (record { test = s.test; model = s.model; graph = s.graph }) s.next_stores.items s.first_stores.items s.loads };
 }
 
 impl Static {
@@ -59,6 +61,7 @@ impl Static {
             graph: kept_graph(alloc, test, model)?,
             next_stores: next_stores(alloc, test)?,
             first_stores: first_stores(alloc, test)?,
+            loads: WordLoads::of(alloc, test)?,
         })
     }
 

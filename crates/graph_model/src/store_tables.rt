@@ -2,7 +2,7 @@
 ghost use Rattle.std.specs.Prelude.{◌≡◌, ℕ, ◌+◌, ◌*◌, ◌<◌, length, slice_index_or, Some, None, IfOk, if◌then◌else◌};
 ghost use Rattle.std.specs.Option.{option_or};
 ghost use Rattle.test_lang.specs.Program.{op_count};
-ghost use Rattle.graph_model.specs.StoreTables.{HasFirstStores, HasNextStores, is_store_to};
+ghost use Rattle.graph_model.specs.StoreTables.{HasFirstStores, HasNextStores, is_thread_store};
 
 use crate::few_kept::next_of_kind;
 use crate::kinds::Kind;
@@ -42,7 +42,8 @@ fn note_first_store(test: &Test, node: u32, table: &mut [Option<u32>])
     ensures { (word thread : ℕ) → word < test.now.words → thread < length test.now.threads →
         let place = word * length test.now.threads + thread in
         slice_index_or table.new place None
-        ≡ option_or (slice_index_or table.old place None) (if is_store_to test.now word thread node then Some node else None) }
+        ≡ option_or (slice_index_or table.old place None)
+        (if is_thread_store test.now word thread node then Some node else None) }
 {
     let Op::Store { word } = test.op(node) else {
         return;

@@ -4,7 +4,7 @@ ghost use Rattle.test_lang.specs.Litmus.{store_buffering, two_stores_two_loads, 
 ghost use Rattle.test_lang.specs.Runs.{IsInside};
 ghost use Rattle.test_lang.specs.Values.{load_count};
 
-use crate::{Static, edge, kept};
+use crate::{Full, Static, edge, kept};
 use digraph::{Edges, Graph, Pairs as _, Steps};
 use std::alloc::{AllocError, Global};
 use std::marker::Brand;
@@ -316,6 +316,24 @@ fn check_graphs(
         for to in 0..full.nodes() {
             let want = of_second.contains(&(from, to));
             assert_eq!(rt; full.edge(from, to), want, "{from} {to}");
+        }
+    }
+    check_sources(rt, alloc, &full, of_second)
+}
+
+/// Checks which nodes get a mark as sources of each node.
+fn check_sources(
+    rt: &impl Abort,
+    alloc: Global,
+    full: &Full<'_>,
+    edges: Pairs,
+) -> Result<(), Fail> {
+    for to in 0..full.nodes() {
+        let mut marks = vec![in alloc; 0; full.nodes() as usize]?;
+        full.mark_sources(to, 1, &mut marks);
+        for from in 0..full.nodes() {
+            let want = u32::from(edges.contains(&(from, to)));
+            assert_eq!(rt; marks.get(from as usize), Some(&want), "{from} {to}");
         }
     }
     Ok(())

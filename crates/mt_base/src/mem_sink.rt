@@ -25,9 +25,11 @@ impl Model for MemSink {
 
     ghost Value = { MemSinkState };
 
-    ghost view = { λ sink. record { held = sink.held.items; room = sink.room; most = sink.most; calls = sink.calls } };
+    ghost view = { λ sink.
+        record { held = sink.held.items; room = sink.room; most = sink.most; calls = sink.calls } };
 
-    ghost invariant = { λ sink. (vec_len sink.held + sink.room ≤ vec_capacity sink.held) × (1 ≤ sink.most) };
+    ghost invariant = { λ sink.
+        (vec_len sink.held + sink.room ≤ vec_capacity sink.held) × (1 ≤ sink.most) };
 }
 
 impl MemSink {
@@ -40,7 +42,8 @@ impl MemSink {
         fails: Vec<u32>,
     ) -> Result<MemSink, AllocError>
         requires { 1 ≤ most }
-        ensures { IfOk result (λ sink. sink ≡ record { held = []; room = room; most = most; calls = no_calls fails.items }) }
+        ensures { IfOk result (λ sink. sink
+            ≡ record { held = []; room = room; most = most; calls = no_calls fails.items }) }
     {
         Ok(MemSink {
             held: Vec::with_capacity(alloc, room)?,

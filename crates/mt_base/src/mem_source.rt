@@ -24,7 +24,8 @@ impl Model for MemSource {
 
     ghost Value = { MemSourceState };
 
-    ghost view = { λ source. record { left = drop source.start source.bytes.items; most = source.most; calls = source.calls } };
+    ghost view = { λ source.
+        record { left = drop source.start source.bytes.items; most = source.most; calls = source.calls } };
 
     ghost invariant = { λ source. (source.start ≤ length source.bytes.items) × (1 ≤ source.most) };
 }
@@ -33,7 +34,8 @@ impl MemSource {
     /// A take gives at most `most` of the bytes. `fails` has the numbers, from 0, of the takes that fail.
     pub fn new(bytes: Vec<u8>, most: usize, fails: Vec<u32>) -> MemSource
         requires { 1 ≤ most }
-        ensures { result ≡ record { left = bytes.items; most = most; calls = no_calls fails.items } }
+        ensures { result
+            ≡ record { left = bytes.items; most = most; calls = no_calls fails.items } }
     {
         MemSource {
             bytes,
@@ -65,7 +67,8 @@ impl Source for MemSource {
         // It is known exactly.
         ensures answer { result ≡ take_answer self.old (length buf.old) }
         ensures after { self.new ≡ after_take self.old (length buf.old) }
-        ensures bytes { let n = given self.old (length buf.old) in buf.new ≡ take n self.old.left ++ drop n buf.old }
+        ensures bytes { let n = given self.old (length buf.old) in
+            buf.new ≡ take n self.old.left ++ drop n buf.old }
     {
         if self.calls.count(false) {
             return Take::Failed;

@@ -12,10 +12,10 @@ use Rattle.tally.specs.Outcomes.{outcome_eq}
 use Rattle.tally.specs.OutcomeLaws.{outcome_eq_decides}
 use Rattle.tally.specs.Tallies.{IsTally, count_of, occurrences}
 use Rattle.test_lang.specs.Program.{Program}
-use Rattle.test_lang.specs.Runs.{first_outside, outside_of, value_read, IsInside}
+use Rattle.test_lang.specs.Runs.{first_outside, outside_of, value_read, IsInside, IsRunOf}
 use Rattle.test_lang.specs.Signatures.{Means, signature}
 use Rattle.test_lang.specs.Values.{load_count}
-use Rattle.run_text.specs.Runs.{IsRunOf, AreRunsOf}
+use Rattle.run_text.specs.Runs.{AreRunsOf}
 use Rattle.signature_plan.specs.Outcomes.{outcome_by, outcome_of}
 use Rattle.verdict_report.specs.Lines.{signatures}
 use Rattle.mtrace_app.specs.Report.{AreMeant}
@@ -43,7 +43,7 @@ none_outside p run (Some load) e = cc
 
 means_by : (p : Program) (run words : List ℕ) (found : Option (ℕ × ℕ)) → IsRunOf (load_count p) run → outside_of p run ≡ found → outcome_by p run found ≡ Inside words → Means p words run
 means_by p run words None is_run none e = record {
-  inside = record { is_run = record { whole = is_run.whole; values = is_run.values }; none_outside = none_outside p run (first_outside p run) none };
+  inside = record { is_run = is_run; none_outside = none_outside p run (first_outside p run) none };
   words_are = cc;
 }
 means_by p run words (Some load) is_run some e = absurd cc

@@ -5,10 +5,11 @@ use Rattle.tally.specs.declared.outcome.Outcome.{Outcome}
 use Rattle.tally.specs.Counting.{Counting, HasCounted}
 use Rattle.tally.specs.Tallies.{IsTally, total_of}
 use Rattle.test_lang.specs.Program.{Program}
+use Rattle.test_lang.specs.Runs.{IsRunOf}
 use Rattle.test_lang.specs.Values.{load_count}
 use Rattle.run_text.specs.declared.fault.RunFault.{RunFault}
 use Rattle.run_text.specs.Reader.{Reader}
-use Rattle.run_text.specs.Runs.{reading, with_run, with_runs, AreRunsOf, IsRunOf, IsRunRead, ReadsOn}
+use Rattle.run_text.specs.Runs.{reading, with_run, with_runs, AreRunsOf, IsRunRead, ReadsOn}
 use Rattle.run_text.proofs.Runs.{with_runs-push}
 use Rattle.signature_plan.specs.Outcomes.{outcome_of}
 use Rattle.mtrace_app.specs.Counted.{IsCounted}

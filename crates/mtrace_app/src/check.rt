@@ -10,10 +10,11 @@ ghost use Rattle.verdict_report.specs.Lines.{signatures};
 
 use crate::answer::Answer;
 use crate::message::{input_line, runs_line, values_line};
-use crate::recorded::{MAX_RUNS, MAX_VALUES, Recorded, read_input};
+use crate::recorded::{MAX_VALUES, Recorded, read_input};
 use crate::report::{count_signatures, report};
 use crate::status::Status;
 use crate::unread::Unread;
+use command_line::MAX_RUNS;
 use std::alloc::{AllocError, Global};
 use test_lang::op::MemModel;
 

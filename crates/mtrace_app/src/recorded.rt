@@ -14,15 +14,13 @@ ghost use Rattle.verdict_report.specs.Lines.{signatures};
 ghost use Rattle.mtrace_app.specs.Recorded.{IsRecorded, text_behind};
 
 use crate::unread::Unread;
+use command_line::MAX_RUNS;
 use run_text::fault::RunFault;
 use run_text::run_lines::RunLines;
 use signature_plan::Plan;
 use std::alloc::{AllocError, Global};
 use tally::{Counter, Tally};
 use test_lang::test::Test;
-
-/// The most runs that an input may have.
-pub(crate) const MAX_RUNS: u64 = 1_000_000;
 
 /// The most values that the runs of an input may have in all.
 pub(crate) const MAX_VALUES: u64 = 67_108_864;

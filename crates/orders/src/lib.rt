@@ -15,12 +15,14 @@ pub trait Relation {
 
 /// A list of nodes has one least order at most.
 pub fn one_least_order<R: Relation>()
-    ensures { (nodes a b : List ℕ) → IsLeastOrder R.edges nodes a → IsLeastOrder R.edges nodes b → a ≡ b }
+    ensures { (nodes a b : List ℕ) →
+        IsLeastOrder R.edges nodes a → IsLeastOrder R.edges nodes b → a ≡ b }
 {}
 
 /// The order that has at each place the least node whose predecessors all stand before it is the least order.
 pub fn next_nodes_are_least<R: Relation>()
-    ensures { (nodes order : List ℕ) → TakesNext R.edges nodes order → IsLeastOrder R.edges nodes order }
+    ensures { (nodes order : List ℕ) →
+        TakesNext R.edges nodes order → IsLeastOrder R.edges nodes order }
 {}
 
 /// Where nodes are left and none of them has all its predecessors placed, there is no order.
@@ -33,9 +35,13 @@ pub fn few_edges_order_as_all<E: Relation, F: Relation>()
     requires among { IsAmong F.edges E.edges }
     requires reaching { IsReaching F.edges E.edges }
     ensures reach { (a b : ℕ) → Reach E.edges a b ↔ Reach F.edges a b }
-    ensures orders { (nodes order : List ℕ) → IsWithin E.edges nodes → IsOrder E.edges nodes order ↔ IsOrder F.edges nodes order }
-    ensures least { (nodes order : List ℕ) → IsWithin E.edges nodes → IsLeastOrder E.edges nodes order ↔ IsLeastOrder F.edges nodes order }
-    ensures none { (nodes : List ℕ) → IsWithin E.edges nodes → HasNoOrder E.edges nodes ↔ HasNoOrder F.edges nodes }
+    ensures orders { (nodes order : List ℕ) →
+        IsWithin E.edges nodes → IsOrder E.edges nodes order ↔ IsOrder F.edges nodes order }
+    ensures least { (nodes order : List ℕ) →
+        IsWithin E.edges nodes
+        → IsLeastOrder E.edges nodes order ↔ IsLeastOrder F.edges nodes order }
+    ensures none { (nodes : List ℕ) →
+        IsWithin E.edges nodes → HasNoOrder E.edges nodes ↔ HasNoOrder F.edges nodes }
 {}
 
 /// A node lies on a cycle exactly where a path leads from it back to it.
@@ -45,11 +51,13 @@ pub fn cycles_are_paths_back<R: Relation>()
 
 /// A cycle leaves no order of nodes that have the ends of all edges among them.
 pub fn a_cycle_leaves_no_order<R: Relation>()
-    ensures { (nodes : List ℕ) → IsWithin R.edges nodes → (node : ℕ) → IsOnCycle R.edges node → HasNoOrder R.edges nodes }
+    ensures { (nodes : List ℕ) →
+        IsWithin R.edges nodes → (node : ℕ) → IsOnCycle R.edges node → HasNoOrder R.edges nodes }
 {}
 
 /// Nodes have an order, or some node lies on a cycle, where a test tells the edges.
 pub fn order_or_cycle()
     ensures { (edge : ℕ → ℕ → Bool) (nodes : List ℕ) → AllPairs (λ a b. a ≢ b) nodes
-        → IsAcyclic (λ a b. IsTrue (edge a b)) nodes ⊎ ((node : ℕ) × IsOnCycle (λ a b. IsTrue (edge a b)) node) }
+        → IsAcyclic (λ a b. IsTrue (edge a b)) nodes
+        ⊎ ((node : ℕ) × IsOnCycle (λ a b. IsTrue (edge a b)) node) }
 {}

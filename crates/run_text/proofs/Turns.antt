@@ -5,11 +5,12 @@ use Rattle.std.specs.Fmt.{decimal}
 use Rattle.std.specs.List.{All, flat_map}
 use Rattle.std.proofs.lemmas.List.{length-map}
 use Rattle.std.proofs.lemmas.List.Elements.{All-nil, All-cons, All-head, All-tail}
+use Rattle.test_lang.specs.Runs.{IsRunOf}
 use Rattle.test_lang.specs.Text.Numeral.{value, IsNumeralOf, part}
 use Rattle.test_lang.proofs.TextLemmas.Numerals.{numeral-is_decimal, decimal-numeral}
 use Rattle.run_text.specs.Reader.{Reader, Turn, behind, turn}
 use Rattle.run_text.specs.Grammar.{AreNumerals, values_of, AllFit, ReadsRun, ReadsDone, Means}
-use Rattle.run_text.specs.Runs.{IsRunOf, line_of}
+use Rattle.run_text.specs.Runs.{line_of}
 use Rattle.run_text.proofs.Meaning.{turn_means, means_turn}
 use Rattle.run_text.proofs.Ended.{turn_ended}
 

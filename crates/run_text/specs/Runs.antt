@@ -1,18 +1,14 @@
 -- The text of all runs, and what reading all of a text gives.
-use Rattle.std.specs.Prelude.{◌≡◌, ◌⊎◌, ℕ, zero, suc, ◌+◌, ◌^◌, ◌<◌, List, [], ◌∷◌, ◌++◌, All, map, length, Bool, true, false, Result, Ok, Err, if◌then◌else◌, codes}
+use Rattle.std.specs.Prelude.{◌≡◌, ◌⊎◌, ℕ, zero, suc, ◌+◌, ◌<◌, List, [], ◌∷◌, ◌++◌, map, length, Bool, true, false, Result, Ok, Err, if◌then◌else◌, codes}
 use Rattle.std.specs.Fmt.{decimal}
 use Rattle.std.specs.List.{AllByRecursion, flat_map}
+use Rattle.test_lang.specs.Runs.{IsRunOf}
 use Rattle.test_lang.specs.Text.Line.{closed}
 use Rattle.test_lang.specs.Text.Numeral.{part}
 use Rattle.run_text.specs.declared.fault.RunFault.{RunFault}
 use Rattle.run_text.specs.declared.fault.RunFault.TheVariants.{Memory}
 use Rattle.run_text.specs.Reader.{Reader, Turn, behind, turn}
 use Rattle.run_text.specs.Grammar.{Means}
-
--- as many values as there are loads, each below 2^32
-pub record IsRunOf (loads : ℕ) (run : List ℕ) : Type 0 where
-  pub whole : length run ≡ loads
-  pub values : All (λ v. v < 2 ^ 32) run
 
 abbrev pub AreRunsOf : ℕ → List (List ℕ) → Type 0
 AreRunsOf loads runs = AllByRecursion (IsRunOf loads) runs

@@ -11,5 +11,6 @@ pub fn lines_are_read_in_turn()
 
 /// What reading all lines gives is what the text means: the runs whose text it is, or why it is refused.
 pub fn runs_are_read()
-    ensures { (reader : Reader) (meant : Result (List (List ℕ)) RunFault) → reader.is_done ≡ false → (reading reader ≡ meant) ↔ RunsMean reader meant }
+    ensures { (reader : Reader) (meant : Result (List (List ℕ)) RunFault) →
+        reader.is_done ≡ false → (reading reader ≡ meant) ↔ RunsMean reader meant }
 {}

@@ -19,7 +19,8 @@ impl Found {
     fn add(&mut self, value: u64, want: u32, values: &mut Vec<u32>) -> Result<(), AllocError>
         requires room { self.old.count + 1 < 2 ^ 32 }
         ensures found { OnOk result (self.new ≡ with_value self.old value) }
-        ensures values { OnOk result (values.new.items ≡ add_value self.old.count want value values.old.items) }
+        ensures values { OnOk result
+            (values.new.items ≡ add_value self.old.count want value values.old.items) }
         ensures err { OnErr result (values.new.items ≡ values.old.items) }
     {
         if self.count < want {
@@ -39,7 +40,8 @@ pub fn read_parts(
     values: &mut Vec<u32>,
 ) -> Result<Option<Found>, AllocError>
     requires short { length bytes.now < 2 ^ 32 }
-    ensures exact { IfOk result (λ found. MayKeep want values.old.items found values.new.items (parts gap bytes.now)) }
+    ensures exact { IfOk result
+        (λ found. MayKeep want values.old.items found values.new.items (parts gap bytes.now)) }
     ensures front { take (vec_len values.old) values.new.items ≡ values.old.items }
 {
     let mut found = Found {

@@ -11,7 +11,8 @@ use std::alloc::AllocError;
 /// another form.
 fn find_values(line: &[u8], want: u32, values: &mut Vec<u32>) -> Result<Option<Found>, AllocError>
     requires short { length line.now < 2 ^ 32 }
-    ensures exact { IfOk result (λ found. MayKeep want values.old.items found values.new.items (run_values line.now)) }
+    ensures exact { IfOk result
+        (λ found. MayKeep want values.old.items found values.new.items (run_values line.now)) }
     ensures front { take (vec_len values.old) values.new.items ≡ values.old.items }
 {
     match line.strip_prefix(b"run") {

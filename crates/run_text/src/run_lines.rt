@@ -27,7 +27,8 @@ impl<'a> Model for RunLines<'a> {
 
     ghost Value = { Reader };
 
-    ghost view = { λ lines. record { left = lines.left.now; line = lines.line; loads = lines.loads; is_done = lines.is_done } };
+    ghost view = { λ lines.
+        record { left = lines.left.now; line = lines.line; loads = lines.loads; is_done = lines.is_done } };
 
     ghost invariant = { λ lines. lines.line + length lines.left.now < 2 ^ 32 };
 }
@@ -48,7 +49,8 @@ impl<'a> RunLines<'a> {
     /// The reader of a text whose first line has this number, behind a test with so many loads.
     pub fn new(bytes: &'a [u8], line: u32, loads: u32) -> RunLines<'a>
         requires { line + length bytes.now < 2 ^ 32 }
-        ensures { result ≡ record { left = bytes.entry.now; line = line; loads = loads; is_done = false } }
+        ensures { result
+            ≡ record { left = bytes.entry.now; line = line; loads = loads; is_done = false } }
     {
         RunLines {
             left: bytes,
@@ -69,12 +71,15 @@ impl<'a> RunLines<'a> {
     /// stands behind it. A refusal changes nothing.
     pub fn next(&mut self, values: &mut Vec<u32>) -> Result<bool, RunFault>
         // What a call gives is a function of the reader, unless memory runs out.
-        ensures exact { Gives result values.old.items values.new.items self.old self.new (turn self.old) }
+        ensures exact { Gives result values.old.items values.new.items self.old self.new
+            (turn self.old) }
         // What is given is what the lines mean.
-        ensures found { OnFalse self.old.is_done ((meant : Result Turn RunFault) × Means self.old meant
+        ensures found { OnFalse self.old.is_done ((meant : Result Turn RunFault)
+            × Means self.old meant
             × Gives result values.old.items values.new.items self.old self.new meant) }
         // What the lines mean is given, unless memory runs out.
-        ensures only { OnFalse self.old.is_done ((meant : Result Turn RunFault) → Means self.old meant
+        ensures only { OnFalse self.old.is_done ((meant : Result Turn RunFault) →
+            Means self.old meant
             → Gives result values.old.items values.new.items self.old self.new meant) }
         // What a call tells of reading all lines, for a loop that reads on.
         ensures reads_on { ReadsOn result values.old.items values.new.items self.old self.new }
@@ -87,7 +92,8 @@ impl<'a> RunLines<'a> {
 
     fn step(&mut self, values: &mut Vec<u32>) -> Result<bool, RunFault>
         ensures ended { OnTrue self.old.is_done (result ≡ Ok false) }
-        ensures exact { Gives result values.old.items values.new.items self.old self.new (turn self.old) }
+        ensures exact { Gives result values.old.items values.new.items self.old self.new
+            (turn self.old) }
     {
         if self.is_done {
             return Ok(false);

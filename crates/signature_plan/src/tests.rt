@@ -1,6 +1,4 @@
 //! Signatures of the runs of a few tests, and what is refused.
-ghost use Rattle.std.specs.Prelude.{◌↔◌, IsTrue};
-ghost use Rattle.test_lang.specs.Program.{HasWord};
 
 use crate::{Outside, Plan, WordTooLarge};
 use std::alloc::{AllocError, Global};
@@ -104,15 +102,6 @@ const CASES: [Case; 8] = [
     },
 ];
 
-fn has_word(test: &Test, op: Op) -> bool
-    ensures { IsTrue result ↔ HasWord test.now op }
-{
-    match op {
-        Op::Load { word } | Op::Store { word } => word < test.words(),
-        Op::Fence => true,
-    }
-}
-
 fn build(rt: &impl Abort, alloc: Global, case: &Case) -> Result<Test, Fail> {
     assert!(rt; 1 <= case.words && case.words <= 256);
     let mut test = Test::new(alloc, case.words);
@@ -122,7 +111,7 @@ fn build(rt: &impl Abort, alloc: Global, case: &Case) -> Result<Test, Fail> {
         for (op, times) in ops.iter() {
             for _ in 0..*times {
                 assert!(rt; test.threads() > 0 && test.ops() < 2048);
-                assert!(rt; has_word(&test, *op));
+                assert!(rt; test.has_word(*op));
                 test.add_op(*op)?;
             }
         }

@@ -1,6 +1,7 @@
 pub mod Program
 pub mod Values
 pub mod Tables
+pub mod Models
 pub mod Kept
 pub mod Runs
 pub mod Signatures

@@ -57,11 +57,15 @@ thread_length p t = length (slice_index_or p.threads t [])
 abbrev pub first_node : Program → ℕ → ℕ
 first_node p t = sum_by length (take t p.threads)
 
+-- the word of the operation, if it has one, is below n
+abbrev pub HasWordBelow : ℕ → Op → Type 0
+HasWordBelow n (Load word) = word < n
+HasWordBelow n (Store word) = word < n
+HasWordBelow n Fence = Unit {0}
+
 -- the word of the operation, if it has one, is a word of the test
 abbrev pub HasWord : Program → Op → Type 0
-HasWord p (Load word) = word < p.words
-HasWord p (Store word) = word < p.words
-HasWord p Fence = Unit {0}
+HasWord p op = HasWordBelow p.words op
 
 -- The limits of a test. A text of a test has at least one thread; a test that is being made may have none.
 pub record IsWithinLimits (p : Program) : Type 0 where

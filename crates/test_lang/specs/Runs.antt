@@ -5,10 +5,14 @@ use Rattle.std.specs.Option.{option_map}
 use Rattle.test_lang.specs.Program.{Program, all_nodes}
 use Rattle.test_lang.specs.Values.{is_store_at, same_thread, one_word, value_of, rank_of, load_count, load_nodes}
 
--- A run: one value for each load, by rank.
-pub record IsRun (p : Program) (run : List ℕ) : Type 0 where
-  pub whole : length run ≡ load_count p
+-- as many values as there are loads, each below 2^32
+pub record IsRunOf (loads : ℕ) (run : List ℕ) : Type 0 where
+  pub whole : length run ≡ loads
   pub values : All (λ value. value < 2 ^ 32) run
+
+-- A run: one value for each load, by rank.
+abbrev pub IsRun : Program → List ℕ → Type 0
+IsRun p run = IsRunOf (load_count p) run
 
 -- the value that a load gives in the run
 abbrev pub value_read : Program → List ℕ → ℕ → ℕ

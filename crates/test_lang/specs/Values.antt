@@ -25,6 +25,12 @@ is_of x (Load word) = x == word
 is_of x (Store word) = x == word
 is_of x Fence = false
 
+-- a store to the word
+abbrev pub is_store_to : ℕ → Op → Bool
+is_store_to x (Load word) = false
+is_store_to x (Store word) = x == word
+is_store_to x Fence = false
+
 -- two loads or stores of one word
 abbrev pub same_word : Op → Op → Bool
 same_word (Load word) b = is_of word b

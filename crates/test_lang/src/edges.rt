@@ -7,6 +7,8 @@ ghost use Rattle.test_lang.specs.EdgeList.{is_edge, edge_list};
 
 /// The test of two nodes tells the edges, and the list has exactly them.
 pub fn edges_are_listed()
-    ensures told { (m : MemModel) (p : Program) (run : List ℕ) (a b : ℕ) → Edge m p run a b ↔ IsTrue (is_edge m p run a b) }
-    ensures listed { (m : MemModel) (p : Program) (run : List ℕ) (a b : ℕ) → Edge m p run a b ↔ Contains (edge_list m p run) (a, b) }
+    ensures told { (m : MemModel) (p : Program) (run : List ℕ) (a b : ℕ) →
+        Edge m p run a b ↔ IsTrue (is_edge m p run a b) }
+    ensures listed { (m : MemModel) (p : Program) (run : List ℕ) (a b : ℕ) →
+        Edge m p run a b ↔ Contains (edge_list m p run) (a, b) }
 {}

@@ -28,32 +28,37 @@ pub fn each_thread_has_a_word()
 
 /// Sixty-four loads of two candidates fill a word; one more opens the next.
 pub fn full_word()
-    ensures full { map (group_product (one_store_loads 64)) (groups (one_store_loads 64)) ≡ (2 ^ 64) ∷ [] }
+    ensures full { map (group_product (one_store_loads 64)) (groups (one_store_loads 64))
+        ≡ (2 ^ 64) ∷ [] }
     ensures more { map length (groups (one_store_loads 65)) ≡ 64 ∷ 1 ∷ [] }
     ensures largest { signature (one_store_loads 65) (replicate 65 1) ≡ (2 ^ 64 - 1) ∷ 1 ∷ [] }
 {}
 
 /// Store buffering under `sc` where both loads give 0: the edges go round.
 pub fn store_buffering_both_zero()
-    ensures edges { edge_list Sc store_buffering (0 ∷ 0 ∷ []) ≡ (0, 1) ∷ (1, 2) ∷ (2, 3) ∷ (3, 0) ∷ [] }
+    ensures edges { edge_list Sc store_buffering (0 ∷ 0 ∷ [])
+        ≡ (0, 1) ∷ (1, 2) ∷ (2, 3) ∷ (3, 0) ∷ [] }
     ensures cycle { IsRunCycle Sc store_buffering (0 ∷ 0 ∷ []) (0 ∷ 1 ∷ 2 ∷ 3 ∷ []) }
 {}
 
 /// Store buffering under `sc` where the first load gives 0: the first thread may come first.
 pub fn store_buffering_first_zero()
-    ensures edges { edge_list Sc store_buffering (0 ∷ 1 ∷ []) ≡ (0, 1) ∷ (0, 3) ∷ (1, 2) ∷ (2, 3) ∷ [] }
+    ensures edges { edge_list Sc store_buffering (0 ∷ 1 ∷ [])
+        ≡ (0, 1) ∷ (0, 3) ∷ (1, 2) ∷ (2, 3) ∷ [] }
     ensures order { IsRunOrder Sc store_buffering (0 ∷ 1 ∷ []) (0 ∷ 1 ∷ 2 ∷ 3 ∷ []) }
 {}
 
 /// Store buffering under `sc` where the second load gives 0: the second thread comes first.
 pub fn store_buffering_second_zero()
-    ensures edges { edge_list Sc store_buffering (2 ∷ 0 ∷ []) ≡ (0, 1) ∷ (2, 1) ∷ (2, 3) ∷ (3, 0) ∷ [] }
+    ensures edges { edge_list Sc store_buffering (2 ∷ 0 ∷ [])
+        ≡ (0, 1) ∷ (2, 1) ∷ (2, 3) ∷ (3, 0) ∷ [] }
     ensures order { IsRunOrder Sc store_buffering (2 ∷ 0 ∷ []) (2 ∷ 3 ∷ 0 ∷ 1 ∷ []) }
 {}
 
 /// Store buffering under `sc` where no load gives 0: both stores come first.
 pub fn store_buffering_none_zero()
-    ensures edges { edge_list Sc store_buffering (2 ∷ 1 ∷ []) ≡ (0, 1) ∷ (0, 3) ∷ (2, 1) ∷ (2, 3) ∷ [] }
+    ensures edges { edge_list Sc store_buffering (2 ∷ 1 ∷ [])
+        ≡ (0, 1) ∷ (0, 3) ∷ (2, 1) ∷ (2, 3) ∷ [] }
     ensures order { IsRunOrder Sc store_buffering (2 ∷ 1 ∷ []) (0 ∷ 2 ∷ 1 ∷ 3 ∷ []) }
 {}
 
@@ -75,7 +80,8 @@ pub fn message_passing_old_data()
     ensures sc { IsRunCycle Sc message_passing (2 ∷ 0 ∷ []) (0 ∷ 1 ∷ 2 ∷ 3 ∷ []) }
     ensures tso { IsRunCycle Tso message_passing (2 ∷ 0 ∷ []) (0 ∷ 1 ∷ 2 ∷ 3 ∷ []) }
     ensures weak { IsRunOrder Weak message_passing (2 ∷ 0 ∷ []) (1 ∷ 2 ∷ 3 ∷ 0 ∷ []) }
-    ensures fences { IsRunCycle Weak message_passing_fences (2 ∷ 0 ∷ []) (0 ∷ 1 ∷ 2 ∷ 3 ∷ 4 ∷ 5 ∷ []) }
+    ensures fences { IsRunCycle Weak message_passing_fences (2 ∷ 0 ∷ [])
+        (0 ∷ 1 ∷ 2 ∷ 3 ∷ 4 ∷ 5 ∷ []) }
 {}
 
 /// Two loads of one word that see two stores of another thread in the wrong order: a cycle under each model. In the right order all is well.

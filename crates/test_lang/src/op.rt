@@ -21,3 +21,19 @@ pub enum MemModel {
     /// Pairs of one word but a store followed by a load, and pairs with a fence.
     Weak,
 }
+
+impl MemModel {
+    ghost use Rattle.std.specs.Prelude.{◌≡◌};
+    ghost use Rattle.test_lang.specs.Models.{model_name};
+
+    /// The name that commands and reports give the model.
+    pub fn name(self) -> &'static str
+        ensures { result.now ≡ model_name self }
+    {
+        match self {
+            MemModel::Sc => "sc",
+            MemModel::Tso => "tso",
+            MemModel::Weak => "weak",
+        }
+    }
+}

@@ -12,6 +12,15 @@ mod lookups;
 #[cfg(test)]
 mod tests;
 
+/// The most words that a test may have.
+pub const MAX_WORDS: u32 = 256;
+
+/// The most threads that a test may have.
+pub const MAX_THREADS: u32 = 16;
+
+/// The most operations that a test may have, in all its threads.
+pub const MAX_OPS: u32 = 2048;
+
 /// What the accessors answer of one node.
 #[derive(Clone, Copy, Debug, Drop)]
 struct Row {
@@ -23,7 +32,7 @@ struct Row {
     rank: u32,
 }
 
-/// A test: 1 to 256 words, and at most 16 threads of at most 2048 operations in all.
+/// A test: 1 to `MAX_WORDS` words, and at most `MAX_THREADS` threads of at most `MAX_OPS` operations in all.
 ///
 /// Its operations, numbered from 0 in text order, fences included, are its nodes. Loads have ranks from 0, and stores have values from 1,
 /// both in text order.
@@ -53,7 +62,7 @@ impl Test {
     /// A test without threads. It takes no memory.
     pub fn new(alloc: Global, words: u32) -> Test
         requires some { 1 ≤ words }
-        requires few { words ≤ 256 }
+        requires few { words ≤ MAX_WORDS }
         ensures { result ≡ empty_program words }
     {
         Test {
@@ -67,7 +76,7 @@ impl Test {
 
     /// Adds an empty thread at the end. The error is want of memory.
     pub fn add_thread(&mut self) -> Result<(), AllocError>
-        requires { length self.old.threads < 16 }
+        requires { length self.old.threads < MAX_THREADS }
         ensures ok { OnOk result (self.new ≡ with_thread self.old) }
         ensures err { OnErr result (self.new ≡ self.old) }
     {
@@ -78,7 +87,7 @@ impl Test {
     /// Adds the operation at the end of the last thread. The error is want of memory.
     pub fn add_op(&mut self, op: Op) -> Result<(), AllocError>
         requires thread { 0 < length self.old.threads }
-        requires room { op_count self.old < 2048 }
+        requires room { op_count self.old < MAX_OPS }
         requires word { HasWord self.old op }
         ensures ok { OnOk result (self.new ≡ with_op self.old op) }
         ensures err { OnErr result (self.new ≡ self.old) }
@@ -105,7 +114,7 @@ impl Test {
     pub fn words(&self) -> u32
         ensures count { result ≡ self.now.words }
         ensures some { 1 ≤ result }
-        ensures few { result ≤ 256 }
+        ensures few { result ≤ MAX_WORDS }
         ensures limits { IsWithinLimits self.now }
     {
         self.words
@@ -114,7 +123,7 @@ impl Test {
     /// The number of threads.
     pub fn threads(&self) -> u32
         ensures count { result ≡ length self.now.threads }
-        ensures few { result ≤ 16 }
+        ensures few { result ≤ MAX_THREADS }
     {
         self.first_nodes.len() as u32
     }
@@ -122,7 +131,7 @@ impl Test {
     /// The number of operations.
     pub fn ops(&self) -> u32
         ensures count { result ≡ op_count self.now }
-        ensures few { result ≤ 2048 }
+        ensures few { result ≤ MAX_OPS }
     {
         self.rows.len() as u32
     }
@@ -131,7 +140,7 @@ impl Test {
     pub fn loads(&self) -> u32
         ensures count { result ≡ load_count self.now }
         ensures few { result ≤ op_count self.now }
-        ensures room { op_count self.now ≤ 2048 }
+        ensures room { op_count self.now ≤ MAX_OPS }
     {
         self.load_nodes.len() as u32
     }
@@ -140,7 +149,7 @@ impl Test {
     pub fn stores(&self) -> u32
         ensures count { result ≡ store_count self.now }
         ensures few { result ≤ op_count self.now }
-        ensures room { op_count self.now ≤ 2048 }
+        ensures room { op_count self.now ≤ MAX_OPS }
     {
         self.store_nodes.len() as u32
     }

@@ -6,21 +6,17 @@ use Rattle.tally.specs.declared.outcome.Outcome.{Outcome}
 use Rattle.tally.specs.declared.outcome.Outcome.TheVariants.{Inside, Outside}
 use Rattle.test_lang.specs.Text.Line.{closed}
 use Rattle.test_lang.specs.declared.op.MemModel.{MemModel}
-use Rattle.test_lang.specs.declared.op.MemModel.TheVariants.{Sc, Tso, Weak}
+use Rattle.test_lang.specs.Models.{model_name}
+use Rattle.test_lang.specs.Text.Numeral.{part}
 use Rattle.verdict_report.specs.declared.report.Judged.{Judged}
 use Rattle.verdict_report.specs.declared.report.Judged.TheVariants.{Ok, Cycle}
 use Rattle.verdict_report.specs.declared.report.Work.{Work}
 use Rattle.verdict_report.specs.declared.report.Report.{Report}
-use Rattle.verdict_report.specs.Numbers.{part, signature_text}
+use Rattle.verdict_report.specs.Numbers.{signature_text}
 
 -- a word and a number, each behind a space
 abbrev pub named : List ℕ → ℕ → List ℕ
 named name number = part name ++ part (decimal number)
-
-abbrev pub model_name : MemModel → List ℕ
-model_name Sc = codes "sc"
-model_name Tso = codes "tso"
-model_name Weak = codes "weak"
 
 -- the first three lines
 abbrev pub head_lines : MemModel → ℕ → List (List ℕ)

@@ -16,7 +16,3 @@ hex_word word = last_hex_digits 16 word
 abbrev pub signature_text : List ℕ → List ℕ
 signature_text [] = codes "none"
 signature_text (word ∷ words) = hex_word word ++ flat_map (λ later. codes "." ++ hex_word later) words
-
--- a part of a line: one space, and these bytes
-abbrev pub part : List ℕ → List ℕ
-part bytes = codes " " ++ bytes

@@ -39,7 +39,8 @@ fn has_outside(tally: &Tally) -> bool
 impl Report<'_> {
     /// Whether nothing was found: no verdict is a cycle, and no outcome is outside. It takes no memory, and time of one look at each of them.
     pub fn is_clean(&self) -> bool
-        ensures { result ≡ (not (has_cycle self.now.found.now) && not (has_outside self.now.tally.now)) }
+        ensures { result
+            ≡ (not (has_cycle self.now.found.now) && not (has_outside self.now.tally.now)) }
     {
         !has_cycle(self.found) && !has_outside(self.tally)
     }

@@ -3,8 +3,8 @@ ghost use Rattle.std.specs.Prelude.{◌≡◌, [], ◌∷◌, ◌++◌, length, 
 ghost use Rattle.std.specs.Fmt.{decimal};
 ghost use Rattle.std.specs.List.{flat_map};
 ghost use Rattle.test_lang.specs.Text.Line.{closed};
-ghost use Rattle.verdict_report.specs.Lines.{head_lines, model_name, is_cycle, is_ok, sum_line, outcome_lines, outside_line, outsides, signature_line, signatures, verdict_text, work_line};
-ghost use Rattle.verdict_report.specs.Numbers.{part};
+ghost use Rattle.test_lang.specs.Text.Numeral.{part};
+ghost use Rattle.verdict_report.specs.Lines.{head_lines, is_cycle, is_ok, sum_line, outcome_lines, outside_line, outsides, signature_line, signatures, verdict_text, work_line};
 
 use crate::numbers::{push_named, push_part, push_signature};
 use crate::report::{Judged, Work};
@@ -12,23 +12,12 @@ use std::alloc::AllocError;
 use tally::{Outcome, Tally};
 use test_lang::op::MemModel;
 
-/// The name of a model.
-fn name(model: MemModel) -> &'static [u8]
-    ensures { result.now ≡ model_name model }
-{
-    match model {
-        MemModel::Sc => b"sc",
-        MemModel::Tso => b"tso",
-        MemModel::Weak => b"weak",
-    }
-}
-
 /// Adds the lines before those of the outcomes.
 pub fn push_head(out: &mut Vec<u8>, model: MemModel, runs: u64) -> Result<(), AllocError>
     ensures { OnOk result (out.new.items ≡ out.old.items ++ closed (head_lines model runs)) }
 {
     out.extend_from_slice(b"mtrace 1\nmodel ")?;
-    out.extend_from_slice(name(model))?;
+    out.extend_from_slice(model.name().as_bytes())?;
     out.extend_from_slice(b"\nruns")?;
     push_part(out, runs)?;
     out.push(b'\n')?;
@@ -37,7 +26,8 @@ pub fn push_head(out: &mut Vec<u8>, model: MemModel, runs: u64) -> Result<(), Al
 
 /// Adds nodes, each behind a space.
 fn push_nodes(out: &mut Vec<u8>, nodes: &[u32]) -> Result<(), AllocError>
-    ensures { OnOk result (out.new.items ≡ out.old.items ++ flat_map (λ node. part (decimal node)) nodes.now) }
+    ensures { OnOk result
+        (out.new.items ≡ out.old.items ++ flat_map (λ node. part (decimal node)) nodes.now) }
 {
     for node in nodes {
         push_part(out, u64::from(*node))?;
@@ -65,7 +55,8 @@ fn push_inside(
     count: u64,
     judged: &Judged,
 ) -> Result<(), AllocError>
-    ensures { OnOk result (out.new.items ≡ out.old.items ++ closed (signature_line ((words.now, count), judged.now) ∷ [])) }
+    ensures { OnOk result (out.new.items
+        ≡ out.old.items ++ closed (signature_line ((words.now, count), judged.now) ∷ [])) }
 {
     out.extend_from_slice(b"sig ")?;
     push_signature(out, words)?;
@@ -77,7 +68,8 @@ fn push_inside(
 
 /// Adds the line of an outcome outside.
 fn push_outside(out: &mut Vec<u8>, node: u32, value: u32, count: u64) -> Result<(), AllocError>
-    ensures { OnOk result (out.new.items ≡ out.old.items ++ closed (outside_line (node, value, count) ∷ [])) }
+    ensures { OnOk result
+        (out.new.items ≡ out.old.items ++ closed (outside_line (node, value, count) ∷ [])) }
 {
     out.extend_from_slice(b"outside")?;
     push_part(out, u64::from(node))?;
@@ -90,7 +82,8 @@ fn push_outside(out: &mut Vec<u8>, node: u32, value: u32, count: u64) -> Result<
 /// Adds a line for each outcome, and gives the number of those outside.
 pub fn push_outcomes(out: &mut Vec<u8>, tally: &Tally, found: &[Judged]) -> Result<u64, AllocError>
     requires { length found.now ≡ length (signatures tally.now) }
-    ensures lines { OnOk result (out.new.items ≡ out.old.items ++ closed (outcome_lines tally.now found.now)) }
+    ensures lines { OnOk result
+        (out.new.items ≡ out.old.items ++ closed (outcome_lines tally.now found.now)) }
     ensures outside { IfOk result (λ outside. outside ≡ length (outsides tally.now)) }
 {
     let mut place = 0;
@@ -125,7 +118,8 @@ fn count_ok(found: &[Judged]) -> u64
 
 /// Adds the line that counts the lines of each kind.
 pub fn push_sum(out: &mut Vec<u8>, found: &[Judged], outside: u64) -> Result<(), AllocError>
-    ensures { OnOk result (out.new.items ≡ out.old.items ++ closed (sum_line (length found.now) (count_by is_ok found.now) (count_by is_cycle found.now) outside ∷ [])) }
+    ensures { OnOk result (out.new.items ≡ out.old.items ++ closed (sum_line
+        (length found.now) (count_by is_ok found.now) (count_by is_cycle found.now) outside ∷ [])) }
 {
     let signatures = found.len() as u64;
     let ok = count_ok(found);

@@ -2,7 +2,8 @@
 ghost use Rattle.std.specs.Prelude.{◌≡◌, ◌<◌, ◌++◌, false, OnOk, codes};
 ghost use Rattle.std.specs.Fmt.{decimal, digit_glyph};
 ghost use Rattle.std.specs.List.{flat_map};
-ghost use Rattle.verdict_report.specs.Numbers.{hex_word, part, signature_text};
+ghost use Rattle.test_lang.specs.Text.Numeral.{part};
+ghost use Rattle.verdict_report.specs.Numbers.{hex_word, signature_text};
 
 use itoa::Buffer;
 use std::alloc::AllocError;
@@ -47,7 +48,8 @@ pub fn push_signature(out: &mut Vec<u8>, words: &[u64]) -> Result<(), AllocError
 
 /// Adds words, each behind a full stop.
 fn push_later(out: &mut Vec<u8>, words: &[u64]) -> Result<(), AllocError>
-    ensures { OnOk result (out.new.items ≡ out.old.items ++ flat_map (λ later. codes "." ++ hex_word later) words.now) }
+    ensures { OnOk result (out.new.items
+        ≡ out.old.items ++ flat_map (λ later. codes "." ++ hex_word later) words.now) }
 {
     for word in words {
         out.push(b'.')?;
@@ -58,7 +60,8 @@ fn push_later(out: &mut Vec<u8>, words: &[u64]) -> Result<(), AllocError>
 
 /// Adds a space, a word, a space, and a number in decimal digits.
 pub fn push_named(out: &mut Vec<u8>, name: &[u8], number: u64) -> Result<(), AllocError>
-    ensures { OnOk result (out.new.items ≡ out.old.items ++ (part name.now ++ part (decimal number))) }
+    ensures { OnOk result
+        (out.new.items ≡ out.old.items ++ (part name.now ++ part (decimal number))) }
 {
     out.push(b' ')?;
     out.extend_from_slice(name)?;

@@ -3,7 +3,9 @@ ghost use Rattle.std.specs.Prelude.{◌≡◌};
 ghost use Rattle.test_lang.specs.Runs.{IsInside};
 
 use crate::run_edges::edge;
+use crate::run_sources::mark_sources;
 use crate::static_graph::Static;
+use crate::word_loads::WordLoads;
 use digraph::Pairs;
 use std::marker::Model;
 use test_lang::op::MemModel;
@@ -15,17 +17,19 @@ pub struct Full<'a> {
     test: &'a Test,
     model: MemModel,
     run: &'a [u32],
+    loads: &'a WordLoads,
 }
 
 impl<'a> Model for Full<'a> {
     ghost use Rattle.graph_model.specs.RunGraph.{RunGraph};
+    ghost use Rattle.graph_model.specs.WordLoads.{TellsLoads};
     ghost use Rattle.test_lang.specs.Runs.{IsInside};
 
     ghost Value = { RunGraph };
 
     ghost view = { λ f. record { test = f.test.now; model = f.model; run = f.run.now } };
 
-    ghost invariant = { λ f. IsInside f.test.now f.run.now };
+    ghost invariant = { λ f. IsInside f.test.now f.run.now × TellsLoads f.test.now f.loads.now };
 }
 
 impl Static {
@@ -38,6 +42,7 @@ impl Static {
             test: &self.test,
             model: self.model,
             run,
+            loads: &self.loads,
         }
     }
 }
@@ -56,5 +61,9 @@ impl Pairs for Full<'_> {
 
     fn edge(&self, from: u32, to: u32) -> bool {
         edge(self.test, self.model, self.run, from, to)
+    }
+
+    fn mark_sources(&self, to: u32, mark: u32, marks: &mut [u32]) {
+        mark_sources(self.test, self.model, self.run, self.loads, to, mark, marks);
     }
 }

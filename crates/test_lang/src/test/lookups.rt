@@ -1,5 +1,5 @@
 //! What a test answers of a node, a thread, a value or a rank. Each answer is one read of a table.
-ghost use Rattle.std.specs.Prelude.{◌≡◌, ◌+◌, ◌<◌, ◌≤◌, length, IsTrue, Some, slice_get};
+ghost use Rattle.std.specs.Prelude.{◌≡◌, ◌+◌, ◌<◌, ◌≤◌, ◌↔◌, length, IsTrue, Some, slice_get};
 ghost use Rattle.test_lang.specs.Program.{op_count, op_at, thread_at, first_node, thread_length, HasWord};
 ghost use Rattle.test_lang.specs.Tables.{Describes};
 ghost use Rattle.test_lang.specs.Values.{is_load_at, is_store_at, load_count, store_count, load_nodes, rank_of, value_of};
@@ -14,6 +14,16 @@ impl Test {
         ensures word { HasWord self.now result.op }
     {
         self.rows[node as usize]
+    }
+
+    /// Whether the word of an operation, if it has one, is a word of the test.
+    pub fn has_word(&self, op: Op) -> bool
+        ensures { IsTrue result ↔ HasWord self.now op }
+    {
+        match op {
+            Op::Load { word } | Op::Store { word } => word < self.words,
+            Op::Fence => true,
+        }
     }
 
     /// The operation of a node.

@@ -1,9 +1,7 @@
 //! Tests of every lookup, at every node, thread, rank and value of a few tests.
-ghost use Rattle.std.specs.Prelude.{◌↔◌, IsTrue};
-ghost use Rattle.test_lang.specs.Program.{HasWord};
 
 use crate::op::Op;
-use crate::test::Test;
+use crate::test::{MAX_OPS, MAX_THREADS, MAX_WORDS, Test};
 use std::alloc::Global;
 use std::process::Abort;
 use std::test::Fail;
@@ -98,24 +96,15 @@ const CASES: [Case; 6] = [
     },
 ];
 
-fn has_word(test: &Test, op: Op) -> bool
-    ensures { IsTrue result ↔ HasWord test.now op }
-{
-    match op {
-        Op::Load { word } | Op::Store { word } => word < test.words(),
-        Op::Fence => true,
-    }
-}
-
 fn build(rt: &impl Abort, alloc: Global, words: u32, threads: &[&[Op]]) -> Result<Test, Fail> {
-    assert!(rt; 1 <= words && words <= 256);
+    assert!(rt; 1 <= words && words <= MAX_WORDS);
     let mut test = Test::new(alloc, words);
     for ops in threads {
-        assert!(rt; test.threads() < 16);
+        assert!(rt; test.threads() < MAX_THREADS);
         test.add_thread()?;
         for op in ops.iter() {
-            assert!(rt; test.threads() > 0 && test.ops() < 2048);
-            assert!(rt; has_word(&test, *op));
+            assert!(rt; test.threads() > 0 && test.ops() < MAX_OPS);
+            assert!(rt; test.has_word(*op));
             test.add_op(*op)?;
         }
     }

@@ -1,26 +1,10 @@
 //! What the lines of a test text have to keep to behind those before them.
 ghost use Rattle.std.specs.Prelude.{◌≡◌};
-ghost use Rattle.test_lang.specs.declared.text.form.Form.TheVariants.{Operation};
-ghost use Rattle.test_lang.specs.Text.Reading.{judged, names_other_word};
+ghost use Rattle.test_lang.specs.Text.Reading.{judged};
 
-use crate::op::Op;
-use crate::test::Test;
+use crate::test::{MAX_OPS, MAX_THREADS, Test};
 use crate::text::fault::TestFault;
 use crate::text::form::Form;
-
-const MAX_THREADS: u32 = 16;
-
-const MAX_OPS: u32 = 2048;
-
-/// Whether the operation names a word that the test doesn't have.
-fn names_other_word(test: &Test, op: Op) -> bool
-    ensures { result ≡ names_other_word test.now (Operation op) }
-{
-    match op {
-        Op::Load { word } | Op::Store { word } => word >= test.words(),
-        Op::Fence => false,
-    }
-}
 
 /// The form of a line behind the lines of the test, or the first refusal that applies.
 pub fn judge(test: &Test, line: u32, form: Option<Form>) -> Result<Form, TestFault>
@@ -33,9 +17,7 @@ pub fn judge(test: &Test, line: u32, form: Option<Form>) -> Result<Form, TestFau
         }
         Some(Form::Thread) => Ok(Form::Thread),
         Some(_) if test.threads() == 0 => Err(TestFault::NoThread { line }),
-        Some(Form::Operation(op)) if names_other_word(test, op) => {
-            Err(TestFault::WordRange { line })
-        }
+        Some(Form::Operation(op)) if !test.has_word(op) => Err(TestFault::WordRange { line }),
         Some(Form::Operation(_)) if test.ops() >= MAX_OPS => Err(TestFault::TooManyOps { line }),
         Some(form) => Ok(form),
     }

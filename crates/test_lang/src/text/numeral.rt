@@ -38,7 +38,8 @@ fn digits(first: u64, text: &[u8]) -> (u64, &[u8])
 
 /// The longest numeral at the front: its number, held down to 2^32, and the bytes after it.
 pub fn numeral(text: &[u8]) -> Option<(u64, &[u8])>
-    ensures exact { option_map (λ found. (found.0, found.1.now)) result ≡ option_map held_front (numeral_at text.now) }
+    ensures exact { option_map (λ found. (found.0, found.1.now)) result
+        ≡ option_map held_front (numeral_at text.now) }
     ensures shorter { IfSome result (λ found. length found.1.now < length text.now) }
 {
     let (first, rest) = text.split_first()?;

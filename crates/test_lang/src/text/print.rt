@@ -8,13 +8,14 @@ ghost use Rattle.test_lang.specs.Text.Grammar.{op_line, thread_lines, test_text}
 ghost use Rattle.test_lang.specs.Text.Reading.{reading};
 
 use crate::op::Op;
-use crate::test::Test;
+use crate::test::{MAX_OPS, Test};
 use itoa::Buffer;
 use std::alloc::{AllocError, Global};
 
 /// Adds the line of a word and a number.
 fn push_numbered(out: &mut Vec<u8>, word: &[u8], number: u32) -> Result<(), AllocError>
-    ensures { OnOk result (out.new.items ≡ out.old.items ++ closed ((word.now ++ part (decimal number)) ∷ [])) }
+    ensures { OnOk result
+        (out.new.items ≡ out.old.items ++ closed ((word.now ++ part (decimal number)) ∷ [])) }
 {
     let mut buffer = Buffer::new();
     out.extend_from_slice(word)?;
@@ -38,8 +39,9 @@ fn push_op(out: &mut Vec<u8>, op: Op) -> Result<(), AllocError>
 /// Adds the lines of a thread.
 fn push_thread(out: &mut Vec<u8>, test: &Test, thread: u32) -> Result<(), AllocError>
     requires thread { thread < length test.now.threads }
-    requires few { op_count test.now ≤ 2048 }
-    ensures { OnOk result (out.new.items ≡ out.old.items ++ closed (thread_lines (slice_index_or test.now.threads thread []))) }
+    requires few { op_count test.now ≤ MAX_OPS }
+    ensures { OnOk result (out.new.items
+        ≡ out.old.items ++ closed (thread_lines (slice_index_or test.now.threads thread []))) }
 {
     out.extend_from_slice(b"thread\n")?;
     let first = test.first_of(thread);
@@ -54,9 +56,11 @@ pub fn print(alloc: Global, test: &Test) -> Result<Vec<u8>, AllocError>
     requires { 0 < length test.now.threads }
     ensures text { IfOk result (λ text. text.items ≡ test_text test.now) }
     // Reading what was printed gives the test back, whatever bytes follow.
-    ensures read_back { IfOk result (λ text. (rest : List ℕ) → reading (text.items ++ rest) ≡ Ok test.now) }
+    ensures read_back { IfOk result
+        (λ text. (rest : List ℕ) → reading (text.items ++ rest) ≡ Ok test.now) }
     // No other text reads as this test.
-    ensures only { IfOk result (λ text. (bytes : List ℕ) → reading bytes ≡ Ok test.now → (rest : List ℕ) × (bytes ≡ text.items ++ rest)) }
+    ensures only { IfOk result (λ text. (bytes : List ℕ) → reading bytes ≡ Ok test.now
+        → (rest : List ℕ) × (bytes ≡ text.items ++ rest)) }
 {
     let mut out = Vec::from_slice(alloc, b"mtest 1\n")?;
     push_numbered(&mut out, b"words", test.words())?;

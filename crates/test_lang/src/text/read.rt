@@ -10,13 +10,16 @@ ghost use Rattle.test_lang.specs.Text.Refusal.{IsRefused, Means};
 ghost use Rattle.test_lang.specs.Text.Answer.{IsRead, Answers};
 ghost use Rattle.test_lang.specs.declared.text.fault.TestFault.{TestFault};
 
-use crate::test::Test;
+use crate::test::{MAX_OPS, MAX_THREADS, MAX_WORDS, Test};
 use crate::text::fault::TestFault;
 use crate::text::form::{Form, read_form};
 use crate::text::judge::judge;
 use crate::text::line::first_line;
 use crate::text::numeral::whole_numeral;
 use std::alloc::Global;
+
+/// The most lines that the text of a test may have: the first two, one for each thread and each operation, and the last.
+pub const MAX_LINES: u32 = 2 + MAX_THREADS + MAX_OPS + 1;
 
 /// A test, as it was read at the front of some bytes.
 #[derive(Debug, Drop)]
@@ -33,7 +36,7 @@ fn read_words(line: &[u8]) -> Option<u32>
     ensures { result ≡ words_of line.now }
 {
     match whole_numeral(line.strip_prefix(b"words ")?) {
-        Some(words) if 1 <= words && words <= 256 => Some(words as u32),
+        Some(words) if 1 <= words && words <= u64::from(MAX_WORDS) => Some(words as u32),
         _ => None,
     }
 }
@@ -49,11 +52,14 @@ struct Body<'a> {
 /// Reads the lines behind the second, up to `end`.
 fn read_body(alloc: Global, text: &[u8], words: u32) -> Result<Body<'_>, TestFault>
     requires some { 1 ≤ words }
-    requires few { words ≤ 256 }
-    ensures test { IfOk result (λ body. walk (empty_program words) 3 (lines_of text.now) ≡ Ok body.test) }
+    requires few { words ≤ MAX_WORDS }
+    ensures test { IfOk result
+        (λ body. walk (empty_program words) 3 (lines_of text.now) ≡ Ok body.test) }
     ensures last { IfOk result (λ body. body.last ≡ length (body_lines body.test) + 3) }
-    ensures left { IfOk result (λ body. text.now ≡ closed (body_lines body.test ++ codes "end" ∷ []) ++ body.left.now) }
-    ensures fault { IfErr result (λ fault. (fault ≡ Memory) ⊎ (walk (empty_program words) 3 (lines_of text.now) ≡ Err fault)) }
+    ensures left { IfOk result
+        (λ body. text.now ≡ closed (body_lines body.test ++ codes "end" ∷ []) ++ body.left.now) }
+    ensures fault { IfErr result (λ fault. (fault ≡ Memory)
+        ⊎ (walk (empty_program words) 3 (lines_of text.now) ≡ Err fault)) }
 {
     let mut test = Test::new(alloc, words);
     let mut left = text;
@@ -111,9 +117,10 @@ impl Test {
         // What is refused is refused so by the rules of the text.
         ensures refused { IfErr result (λ fault. (fault ≡ Memory) ⊎ IsRefused bytes.now fault) }
         // What the bytes mean is answered, unless memory runs out.
-        ensures only { (meant : Result Program TestFault) → Means bytes.now meant → Answers result meant }
+        ensures only { (meant : Result Program TestFault) →
+            Means bytes.now meant → Answers result meant }
         ensures used_within { IfOk result (λ read. read.used ≤ length bytes.now) }
-        ensures few_lines { IfOk result (λ read. read.lines ≤ 2067) }
+        ensures few_lines { IfOk result (λ read. read.lines ≤ MAX_LINES) }
     {
         read_test(alloc, bytes)
     }

@@ -1,6 +1,7 @@
 use Rattle.std.proofs.Common.{◌≡◌, ◌<◌, ◌+◌, ◌-◌, ◌∙◌, ◌++◌, ◌∷◌, [], ℕ, suc, List, length, arith, subst, sym, ap, append_assoc, append-nil}
 use Rattle.std.proofs.lemmas.List.{length_push}
-use Rattle.full_sort.proofs.Descents.{IsDescent, descent_step, some_below, last_edge, descent_cycle}
+use Rattle.full_sort.specs.Levels.{IsShortest}
+use Rattle.full_sort.proofs.Descents.{IsDescent, descent_step, distance_of, some_below, last_edge, descent_cycle}
 use Rattle.full_sort.proofs.shortest.descend.Goals as goal
 
 -- edges lead between nodes
@@ -13,10 +14,10 @@ least_of_level-current-requires-clause-some g c =
     let n = g.P.Pairs.node_count c.args.pairs.now in
     let level = c.loop-level.level in
     let i = c.loop-level.invariant in
-    let has = i.has_level in
     let few = i.few in
-    some_below E n c.args.start c.args.distance (inside_of E c.nodes-nodes.result n c.nodes-nodes.ensures.count c.nodes-nodes.ensures.inside) c.args.levels.now c.requires.levelled
-    c.loop-level.current (level - 1) i.inside (omega (arith, has)) (omega arith) (omega (arith, few))
+    let one : level ≡ (level - 1) + 1 = omega arith in
+    some_below E n c.args.start (c.args.distance - 1) (inside_of E c.nodes-nodes.result n c.nodes-nodes.ensures.count c.nodes-nodes.ensures.inside) c.args.levels.now c.requires.levelled
+    c.loop-level.current (level - 1) (subst (λ (m : ℕ). IsShortest E c.loop-level.current c.args.start m) one i.distance_is) (omega arith) (omega (arith, few))
 
 pub loop-level-preserved : goal.loop-level-preserved
 loop-level-preserved g c =
@@ -35,7 +36,9 @@ loop-level-preserved g c =
     let one : suc (level - 1) ≡ level = omega arith in
     record {
       inside = next.in_range;
-      has_level = next.level;
+      distance_is =
+          distance_of E n c.args.start (c.args.distance - 1) (inside_of E c.nodes-nodes.result n c.nodes-nodes.ensures.count c.nodes-nodes.ensures.inside) levels c.requires.levelled
+          y (level - 1) next.in_range (omega arith) next.level;
       some = omega arith;
       few = omega (arith, few);
       room = ap (λ r. r.room) c.push-in-loop-level.ensures ∙ i.room;
@@ -61,10 +64,12 @@ returns-clause-first g c =
     let one : 1 ≡ c.loop-level.level = omega (arith, some) in
     let inside = inside_of E c.nodes-nodes.result n c.nodes-nodes.ensures.count c.nodes-nodes.ensures.inside in
     let old = i.taken in
-    let edge : E c.loop-level.current c.args.start = last_edge E n c.args.start c.args.distance inside levels c.requires.levelled c.loop-level.current i.inside (i.has_level ∙ sym one) in
+    let edge : E c.loop-level.current c.args.start =
+    last_edge E n c.args.start (c.args.distance - 1) inside levels c.requires.levelled c.loop-level.current
+    (subst (λ (m : ℕ). IsShortest E c.loop-level.current c.args.start m) (sym one) i.distance_is) in
     let whole = old.2 [] (subst (λ (m : ℕ). IsDescent E n levels c.args.start c.loop-level.current m []) one edge) in (
       old.0,
       old.1,
-      descent_cycle E n c.args.start c.args.distance inside levels c.requires.levelled old.0 c.requires.start c.requires.length
+      descent_cycle E n c.args.start (c.args.distance - 1) inside levels c.requires.levelled old.0 c.args.distance c.requires.start (omega (arith, c.requires.some)) c.requires.length
           (subst (IsDescent E n levels c.args.start c.args.start c.args.distance) (append-nil old.0) whole),
     )

@@ -1,11 +1,12 @@
-use Rattle.std.proofs.Common.{◌≡◌, ◌<◌, ◌≤◌, ◌+◌, ◌++◌, ◌∷◌, ℕ, List, get_or, length}
+use Rattle.std.proofs.Common.{◌≡◌, ◌<◌, ◌≤◌, ◌+◌, ◌++◌, ◌∷◌, ℕ, List, length}
+use Rattle.full_sort.specs.Levels.{IsShortest}
 use Rattle.full_sort.proofs.Descents.{IsDescent}
 use Rattle.full_sort.proofs.shortest.descend.Given as goal
 
 abbrev pub invariant-loop-level : goal.invariant-loop-level
 invariant-loop-level g l = record {
   inside : l.current < g.P.Pairs.node_count l.pairs;
-  has_level : get_or l.levels l.current 0 ≡ l.level;
+  distance_is : IsShortest (g.P.Pairs.edges l.pairs) l.current l.start l.level;
   some : 1 ≤ l.level;
   few : l.level ≤ l.distance;
   room : l.cycle.room ≡ l.fn.cycle.room;

@@ -1,6 +1,6 @@
 use Rattle.std.proofs.Common.{◌≡◌, List, Option, Some, None, ℕ, ◌+◌, ◌*◌, length, get_or, cond, sym, ap, ◌∙◌}
 use Rattle.std.specs.Option.{option_or}
-use Rattle.graph_model.specs.StoreTables.{is_store_to}
+use Rattle.graph_model.specs.StoreTables.{is_thread_store}
 use Rattle.graph_model.proofs.StoreTables.{lent_back, firsts_more}
 use Rattle.graph_model.proofs.store_tables.first_stores.Goals as goal
 
@@ -21,5 +21,5 @@ loop-node-preserved c =
           ap (λ (table : List (Option ℕ)). get_or table place None) back
           ∙ firsts_more p n word thread (get_or old place None) (get_or new place None) (c.loop-node.invariant.each word thread in_words in_threads)
           (c.note_first_store.ensures word thread in_words in_threads
-          ∙ ap (λ (table : List (Option ℕ)). option_or (get_or table place None) (cond (is_store_to p word thread n) (Some n) None)) lent);
+          ∙ ap (λ (table : List (Option ℕ)). option_or (get_or table place None) (cond (is_thread_store p word thread n) (Some n) None)) lent);
     }

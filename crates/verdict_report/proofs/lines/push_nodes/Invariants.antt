@@ -1,7 +1,7 @@
 use Rattle.std.proofs.Common.{◌≡◌, ◌++◌, take}
 use Rattle.std.specs.Fmt.{decimal}
 use Rattle.std.specs.List.{flat_map}
-use Rattle.verdict_report.specs.Numbers.{part}
+use Rattle.test_lang.specs.Text.Numeral.{part}
 use Rattle.verdict_report.proofs.lines.push_nodes.Given as goal
 
 abbrev pub invariant-loop-node : goal.invariant-loop-node

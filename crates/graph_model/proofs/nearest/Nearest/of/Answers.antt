@@ -1,10 +1,11 @@
 use Rattle.std.proofs.Common.{◌≡◌, length, ◌<◌, ℕ, Bool, false, ◌&&◌, Option, None, List, slice_index_or, ap, subst, sym, ◌∙◌}
 use Rattle.test_lang.specs.declared.op.Op.{Op}
 use Rattle.test_lang.specs.declared.op.Op.TheVariants.{Load, Store, Fence}
+use Rattle.test_lang.specs.Program.{HasWordBelow}
 use Rattle.test_lang.specs.Values.{is_load, is_store, is_of, same_word}
 use Rattle.graph_model.specs.declared.kinds.Kind.{Kind}
 use Rattle.graph_model.specs.FewKept.{is_kind}
-use Rattle.graph_model.specs.WordTables.{HasWordBelow, at_word}
+use Rattle.graph_model.specs.WordTables.{at_word}
 use Rattle.graph_model.proofs.nearest.Nearest.of.Goals as goal
 
 -- the entry at the operation's word is what is found for it
