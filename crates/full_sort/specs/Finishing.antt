@@ -9,7 +9,7 @@ pub record IsListOf (P : ℕ → Type 0) (list : List ℕ) : Type 0 where
   pub once : AllPairs (λ a b. a ≢ b) list
   pub same : (t : ℕ) → P t ↔ Contains list t
 
--- A node to which an edge leads from one before it reaches each that stands from there on and before itself.
+-- Where an edge leads from a node to a later one, the later one reaches it and all that stand between.
 abbrev pub ReachesBack : (ℕ → ℕ → Type 0) → List ℕ → Type 0
 ReachesBack E order = (i k j : ℕ) → i ≤ k → k < j → j < length order → E (slice_index order i) (slice_index order j) → Reach E (slice_index order j) (slice_index order k)
 
@@ -18,8 +18,9 @@ pub record IsFinishingOrder (E : ℕ → ℕ → Type 0) (n : ℕ) (order : List
   pub nodes : IsListOf (λ t. t < n) order
   pub back : ReachesBack E order
 
--- A search has marked the nodes that it finished and those of its path, which has the last node first. No edge leads from a finished node to one
--- that isn't marked. Were the nodes of the path finished as they stand, the order would be one of a search.
+-- A search has marked the nodes that it finished and those of its path, whose last node stands first.
+-- No edge leads from a finished node to one that isn't marked, and each node of the path reaches those that stand before it.
+-- Were the path finished as it stands, the order would be one of a search.
 pub record IsSearch (E : ℕ → ℕ → Type 0) (marks : List Bool) (finished path : List ℕ) : Type 0 where
   pub found : IsListOf (λ t. is_marked marks t ≡ true) (finished ++ path)
   pub closed : (a b : ℕ) → Contains finished a → E a b → is_marked marks b ≡ true

@@ -7,8 +7,8 @@ ghost use Rattle.full_sort.specs.Components.{GivesNumber, NumbersComponents, Num
 use digraph::{Graph, Steps};
 use std::sync::ledger::Ledger;
 
-/// Gives the number to the node and puts it into the list, unless it has a number. The list is the front of `queue`, of this length, and has the
-/// nodes of the number. Answers the new length.
+/// Gives the number to the node and puts it into the list, unless it has a number. The list has the nodes
+/// of the number: it is the front of `queue`, of this length. Answers the new length.
 fn take_node(node: u32, number: u32, numbers: &mut [u32], queue: &mut [u32], count: usize) -> usize
     requires node { node < length numbers.old }
     requires queue { length queue.old ≡ length numbers.old }
@@ -62,8 +62,8 @@ fn take_sources<L: Ledger>(
     taken
 }
 
-/// Gives the number of the root, which is one higher than the root, to it and to each node from which a path of nodes without a number leads there.
-/// No node has the number yet, and `queue` may hold anything.
+/// Gives the number of the root, which is one higher than the root, to it and to each node from which a
+/// path of nodes without a number leads there. No node has the number yet, and `queue` may hold anything.
 fn number_sources<L: Ledger>(
     graph: &Graph,
     root: u32,
@@ -88,8 +88,9 @@ fn number_sources<L: Ledger>(
     }
 }
 
-/// Numbers the nodes by their components: from the last node of the order to the first, each that has no number yet is the root of a component.
-/// No node has a number before, and `queue` may hold anything. The time is that of the nodes and the edges.
+/// Numbers the nodes by their components: from the last node of the order to the first, each that has no
+/// number yet is the root of a component. No node has a number before, and `queue` may hold anything.
+/// Each edge is looked at once.
 pub fn number_components<L: Ledger>(
     graph: &Graph,
     order: &[u32],

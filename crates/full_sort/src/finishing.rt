@@ -7,8 +7,8 @@ ghost use Rattle.full_sort.specs.Waiting.{is_marked};
 use digraph::{Graph, Steps};
 use std::sync::ledger::Ledger;
 
-/// The next node that isn't marked to which an edge leads from the node. The edges up to the one kept in `seen` were looked at; now those up to
-/// the edge to the answer are.
+/// The next node that isn't marked to which an edge leads from the node, behind the edges that were looked
+/// at. The last one of these is kept in `seen`, one higher, and 0 where there is none.
 fn next_unmarked<L: Ledger>(
     graph: &Graph,
     node: u32,
@@ -41,7 +41,8 @@ fn next_unmarked<L: Ledger>(
     None
 }
 
-/// Puts a node at the end of the path, which grows from the back of the order, and answers where it stands.
+/// Puts a node on top of the path, which grows from the back of the order to its front, and answers where
+/// it stands.
 fn enter(node: u32, top: usize, marks: &mut [bool], seen: &mut [u32], order: &mut [u32]) -> usize
     requires node { node < length marks.old }
     requires some { 0 < top }
@@ -59,8 +60,8 @@ fn enter(node: u32, top: usize, marks: &mut [bool], seen: &mut [u32], order: &mu
     place
 }
 
-/// Finishes the nodes that are reached from the root by nodes that aren't marked, each after those that the search finds from it. Answers how many
-/// nodes are finished then.
+/// Finishes the root and the nodes that the search finds from it, each after those found from there.
+/// So many are finished before, and as many as the answer after.
 fn finish_from<L: Ledger>(
     graph: &Graph,
     root: u32,
@@ -96,8 +97,8 @@ fn finish_from<L: Ledger>(
     done
 }
 
-/// Puts all nodes into `order` as a depth-first search along the edges finishes them. No node is marked before and after, and `seen` may hold
-/// anything. The time is that of the nodes and the edges.
+/// Puts all nodes into `order` as a depth-first search along the edges finishes them.
+/// No node is marked before and after, and `seen` may hold anything. Each edge is looked at once.
 pub fn finishing_order<L: Ledger>(
     graph: &Graph,
     marks: &mut [bool],
