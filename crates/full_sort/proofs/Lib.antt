@@ -23,7 +23,6 @@ mod Numbering
 mod ComponentLaws
 mod ComponentSteps
 pub mod LeastCycles
-mod Strips
 mod Counted
 mod Gained
 mod Without

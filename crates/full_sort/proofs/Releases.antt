@@ -1,15 +1,15 @@
 -- What the release of a node's targets leaves.
-use Rattle.std.proofs.Common.{◌≡◌, ◌≢◌, ◌∙◌, ◌↔◌, ◌⊎◌, ℕ, suc, ◌+◌, ◌-◌, ◌<◌, ◌≤◌, List, [], ◌∷◌, ◌++◌, All, Bool, true, false, cond, eqb, ◌&&◌, Option, Some, None, length, get_or, set, take, drop, map, refl, sym, ap, subst, arith, inl, inr, ⊎_elim, get_or-set_same, get_or-set_other, ne_eqb, take-append-drop}
-use Rattle.std.specs.Prelude.{filter, count_by}
+use Rattle.std.proofs.Common.{◌≡◌, ◌≢◌, ◌∙◌, ◌↔◌, ◌⊎◌, ℕ, ◌+◌, ◌-◌, ◌<◌, ◌≤◌, List, [], ◌∷◌, ◌++◌, All, Bool, cond, eqb, ◌&&◌, Option, Some, None, length, get_or, set, take, drop, map, refl, sym, ap, subst, arith, inl, inr, ⊎_elim, get_or-set_same, get_or-set_other, ne_eqb, take-append-drop}
+use Rattle.std.specs.Prelude.{filter}
 use Rattle.std.proofs.lemmas.Bool.{cases_eq, cases_lt, cases_Bool, eq-eqb}
-use Rattle.std.proofs.lemmas.List.{map-append, length-append, drop_at, get_or_past}
+use Rattle.std.proofs.lemmas.List.{map-append, drop_at, get_or_past}
 use Rattle.std.proofs.lemmas.List.Elements.{filter-append, All-head, All-tail, All-cons, All-get_or}
-use Rattle.std.proofs.lemmas.List.Sums.{sum_by-cons, sum_by-append, sum_by-take-drop, count_by_more_yes, count_by_more_no}
+use Rattle.std.proofs.lemmas.List.Sums.{sum_by-cons, sum_by-take-drop, count_by_more_yes, count_by_more_no}
 use Rattle.digraph.proofs.AtHand.{length-targets}
-use Rattle.digraph.specs.Digraph.{out_degree, source_of, target_of, targets_from, IsLastOut}
+use Rattle.digraph.specs.Digraph.{out_degree, targets_from}
 use Rattle.full_sort.specs.Ready.{GainsFreed, count_of}
 use Rattle.full_sort.specs.Waiting.{count_between}
-use Rattle.full_sort.proofs.Walk.{walk_start, IsWalk, first-between, first-from, behind-le}
+use Rattle.full_sort.proofs.Walk.{walk_start}
 
 abbrev one_if : Bool → ℕ
 one_if b = cond b 1 0

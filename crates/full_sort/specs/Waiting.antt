@@ -1,6 +1,5 @@
 -- What the arrays of a sort hold: how many edges each node waits for, and which nodes are marked as not placed yet.
-use Rattle.std.specs.Prelude.{◌≡◌, ◌≢◌, ◌↔◌, ◌⊎◌, ◌==◌, ◌&&◌, ℕ, ◌<◌, List, Bool, true, false, Contains, count_by, filter, sum_by, length, slice_index, slice_index_or, slice_set, take, [], ◌∷◌}
-use Rattle.orders.specs.Choices.{IsReady}
+use Rattle.std.specs.Prelude.{◌≡◌, ◌≢◌, ◌↔◌, ◌⊎◌, ◌==◌, ◌&&◌, ℕ, ◌<◌, List, Bool, true, false, Contains, count_by, filter, sum_by, length, slice_index, slice_index_or, slice_set, [], ◌∷◌}
 use Rattle.full_sort.specs.Bits.{bit_of}
 
 -- how many edges lead from a to b
@@ -43,9 +42,3 @@ pub record NotesFree (old new waiting : List ℕ) (marks : List Bool) (node : �
   pub others : (t : ℕ) → t ≢ node → bit_of new t ≡ bit_of old t
   pub noted : IsFree waiting marks node → bit_of new node ≡ 1
   pub only : bit_of new node ≡ 1 → (bit_of old node ≡ 1) ⊎ IsFree waiting marks node
-
--- The nodes of the window that aren't marked were placed, one after another, each with its sources of the window before it.
-pub record PlacesInTurn (E : ℕ → ℕ → Type 0) (window : List ℕ) (marks : List Bool) : Type 0 where
-  pub placed : List ℕ
-  pub unmarked : (z : ℕ) → Contains window z → is_marked marks z ≡ false → Contains placed z
-  pub ready : (i : ℕ) → i < length placed → IsReady E window (take i placed) (slice_index placed i)

@@ -5,7 +5,7 @@ ghost use Rattle.orders.specs.Orders.{IsLeastOrder, HasNoOrder};
 ghost use Rattle.digraph.specs.Digraph.{HasEdge, edges_out};
 ghost use Rattle.full_sort.specs.Bits.{IsFirstBit};
 ghost use Rattle.full_sort.specs.Scratch.{IsClean};
-ghost use Rattle.full_sort.specs.Waiting.{is_marked, marked_of, IsWaiting, HasFree, PlacesInTurn};
+ghost use Rattle.full_sort.specs.Waiting.{is_marked, marked_of, IsWaiting, HasFree};
 
 use crate::node_set::NodeSet;
 use crate::waiting::{lower, note_free, raise, release};
@@ -13,7 +13,7 @@ use digraph::{Graph, Steps};
 use std::sync::ledger::Ledger;
 
 /// Marks the window's nodes, and counts the edges from them at each node.
-pub fn count_window<L: Ledger>(
+fn count_window<L: Ledger>(
     graph: &Graph,
     window: &[u32],
     waiting: &mut [u32],
@@ -38,7 +38,7 @@ pub fn count_window<L: Ledger>(
 }
 
 /// Takes the free nodes of the window into the set.
-pub fn find_free(window: &[u32], waiting: &[u32], marks: &[bool], ready: &mut NodeSet)
+fn find_free(window: &[u32], waiting: &[u32], marks: &[bool], ready: &mut NodeSet)
     requires waiting { All (λ n. n < length waiting.now) window.now }
     requires marks { All (λ n. n < length marks.now) window.now }
     requires room { All (λ n. n < 64 * length ready.old) window.now }
@@ -53,7 +53,7 @@ pub fn find_free(window: &[u32], waiting: &[u32], marks: &[bool], ready: &mut No
 }
 
 /// Places the least free node, until all are placed or none is free. What is placed is marked no more.
-pub fn place_window<L: Ledger>(
+fn place_window<L: Ledger>(
     graph: &Graph,
     window: &[u32],
     waiting: &mut [u32],
@@ -73,7 +73,6 @@ pub fn place_window<L: Ledger>(
     requires free { HasFree ready.old waiting.old marks.old }
     ensures found { OnTrue result (IsLeastOrder (HasEdge graph.now.edges) window.now placed.new) }
     ensures none { OnFalse result (HasNoOrder (HasEdge graph.now.edges) window.now) }
-    ensures in_turn { PlacesInTurn (HasEdge graph.now.edges) window.now marks.new }
     ensures counted { IsWaiting graph.now.edges graph.now.nodes window.now waiting.new marks.new }
     ensures unmarked { OnTrue result (All (λ z. is_marked marks.new z ≡ false) window.now) }
     ensures empty { IsFirstBit ready.new None }
@@ -95,7 +94,7 @@ pub fn place_window<L: Ledger>(
 }
 
 /// Takes the marks away that are left in the window, and the counts of the edges from there.
-pub fn clean_up<L: Ledger>(
+fn clean_up<L: Ledger>(
     graph: &Graph,
     window: &[u32],
     waiting: &mut [u32],

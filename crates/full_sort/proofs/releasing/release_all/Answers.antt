@@ -1,12 +1,10 @@
 -- The last edges and the three at hand are all edges.
-use Rattle.std.proofs.Common.{◌≡◌, ◌≢◌, ◌∙◌, ◌⊎◌, ℕ, ◌+◌, ◌<◌, ◌≤◌, ◌↔◌, List, None, ap, get_or, set, take, drop, length, sym, subst, arith, inl, inr, ⊎_elim, get_or-set_same, get_or-set_other}
+use Rattle.std.proofs.Common.{◌≡◌, ◌≢◌, ◌∙◌, ◌⊎◌, ℕ, ◌+◌, ◌<◌, ◌≤◌, ◌↔◌, List, None, get_or, set, length, subst, arith, inl, inr, ⊎_elim, get_or-set_same, get_or-set_other}
 use Rattle.std.proofs.lemmas.Bool.{cases_eq, cases_lt}
 use Rattle.std.proofs.lemmas.List.{get_or_past, length-set}
 use Rattle.std.proofs.lemmas.Option.{none-some}
-use Rattle.digraph.specs.Digraph.{targets_from}
 use Rattle.full_sort.specs.Bits.{bit_of}
-use Rattle.full_sort.specs.Ready.{GainsFreed, IsHeld, count_of}
-use Rattle.full_sort.specs.Waiting.{count_between}
+use Rattle.full_sort.specs.Ready.{GainsFreed, IsHeld}
 use Rattle.full_sort.proofs.Releases.{parts-between}
 use Rattle.full_sort.proofs.releasing.release_all.Goals as goal
 

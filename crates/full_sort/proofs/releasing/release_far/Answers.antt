@@ -1,11 +1,9 @@
 -- A walk over the last edges, which stops three before its end.
-use Rattle.std.proofs.Common.{◌≡◌, ◌∙◌, ℕ, ◌+◌, ◌-◌, ◌<◌, ◌≤◌, List, Option, None, get_or, set, drop, take, length, ap, sym, subst, arith, refl, inl, inr, ⊎_elim, get_or-set_other}
+use Rattle.std.proofs.Common.{◌∙◌, ℕ, ◌-◌, List, None, get_or, ap, subst, arith, refl, inl, ⊎_elim, get_or-set_other}
 use Rattle.std.proofs.lemmas.List.{length-set}
-use Rattle.digraph.specs.Digraph.{out_degree, targets_from}
-use Rattle.full_sort.specs.Ready.{IsHeld, count_of}
-use Rattle.full_sort.specs.Waiting.{count_between}
+use Rattle.full_sort.specs.Ready.{IsHeld}
 use Rattle.full_sort.proofs.Releases.{gained-step, far-between, three-near, walk-goes_on}
-use Rattle.full_sort.proofs.Walk.{walk_start, IsWalk, given, begin-walk, begin-between, begin-from}
+use Rattle.full_sort.proofs.Walk.{IsWalk, given, begin-walk, begin-between, begin-from}
 use Rattle.full_sort.proofs.WalkSteps.{turn-walk, turn-ticked, turn-lowered, turn-enough, turn-from, last-lowered, last-degree, last-fewer}
 use Rattle.full_sort.proofs.releasing.release_far.Goals as goal
 

@@ -1,4 +1,4 @@
-use Rattle.std.proofs.Common.{◌≡◌, ℕ, ◌+◌, ◌<◌, ◌≤◌, None, get_or, length, drop}
+use Rattle.std.proofs.Common.{◌≡◌, ℕ, ◌+◌, ◌<◌, None, get_or, length, drop}
 use Rattle.digraph.specs.Digraph.{out_degree}
 use Rattle.full_sort.specs.Ready.{GainsFreed, HasRoom, IsHeld}
 use Rattle.full_sort.specs.Waiting.{count_between}

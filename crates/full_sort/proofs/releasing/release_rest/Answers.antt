@@ -1,5 +1,5 @@
 -- Where at most three edges lead from the node, none is behind them.
-use Rattle.std.proofs.Common.{◌≡◌, ◌∙◌, ℕ, List, length, ap, arith}
+use Rattle.std.proofs.Common.{ℕ, List, ap, arith}
 use Rattle.std.proofs.lemmas.List.{drop_all}
 use Rattle.digraph.specs.Digraph.{targets_from}
 use Rattle.digraph.proofs.AtHand.{length-targets}

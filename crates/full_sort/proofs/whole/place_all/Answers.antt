@@ -14,7 +14,7 @@ use Rattle.full_sort.proofs.Edges.{degrees-all}
 use Rattle.full_sort.proofs.Marked.{marked-none, sum-marked-less}
 use Rattle.full_sort.proofs.State.{state-next, state-stuck, state-whole, state-enough, state-more}
 use Rattle.full_sort.proofs.Gained.{falls}
-use Rattle.full_sort.proofs.Holding.{front-at, front-gained, front-less, front-long, front-past, held-empty, held-taken, holds-begin, holds-gained, least-held, none-held}
+use Rattle.full_sort.proofs.Holding.{front-at, front-gained, front-less, front-long, held-empty, held-taken, holds-begin, holds-gained, least-held, none-held}
 use Rattle.full_sort.proofs.Placing.{next-more}
 use Rattle.full_sort.proofs.Without.{length-without, without-push, whole-marked, whole-begin, free-begin, settled-begin, settled-taken, settled-falls}
 use Rattle.full_sort.proofs.whole.place_all.Goals as goal

@@ -9,7 +9,6 @@ use Rattle.full_sort.proofs.Marked.{marked-all, sum-marked-less}
 use Rattle.full_sort.proofs.State.{state-begin, state-next, state-stuck, state-whole, state-enough, state-more}
 use Rattle.full_sort.proofs.Free.{least-from-set, set-empty, free-taken}
 use Rattle.full_sort.proofs.Placing.{next-more}
-use Rattle.full_sort.proofs.Strips.{in_turn}
 use Rattle.full_sort.proofs.window.place_window.Goals as goal
 
 pub loop-k-init : goal.loop-k-init
@@ -96,11 +95,3 @@ returns-clause-empty g c =
     let taken = length-take-le c.loop-k.k c.loop-k.placed (omega arith) in
     set-empty c.loop-k.ready c.loop-k.waiting c.loop-k.marks c.args.window.now c.loop-k.invariant.free c.loop-k.invariant.state.waits.only
     (λ x h. c.loop-k.invariant.state.cleared x h (state-whole c.args.graph.now.edges c.args.window.now p c.args.graph.now.nodes c.loop-k.waiting c.loop-k.marks c.loop-k.invariant.state (omega (arith, taken)) x h))
-
-pub returns-in-None-clause-in_turn : goal.returns-in-None-clause-in_turn
-returns-in-None-clause-in_turn g c =
-    in_turn (HasEdge c.args.graph.now.edges) c.args.window.now c.loop-k.placed c.loop-k.k c.loop-k.marks (omega arith) c.loop-k.invariant.next c.loop-k.invariant.state.marked
-
-pub returns-clause-in_turn : goal.returns-clause-in_turn
-returns-clause-in_turn g c =
-    in_turn (HasEdge c.args.graph.now.edges) c.args.window.now c.loop-k.placed c.loop-k.k c.loop-k.marks (omega arith) c.loop-k.invariant.next c.loop-k.invariant.state.marked
