@@ -2,7 +2,7 @@
 #![tactic(auto)]
 
 ghost use Rattle.std.specs.Prelude.{◌≡◌, ◌≢◌, ◌↔◌, ◌⊎◌, ℕ, List, Bool, IsTrue, AllPairs};
-ghost use Rattle.orders.specs.Cycles.{IsOnCycle};
+ghost use Rattle.orders.specs.Cycles.{IsCanonicalCycle, IsOnCycle};
 ghost use Rattle.orders.specs.Orders.{HasNoOrder, IsAcyclic, IsLeastOrder, IsOrder};
 ghost use Rattle.orders.specs.Paths.{Reach};
 ghost use Rattle.orders.specs.Reductions.{IsAmong, IsReaching, IsWithin};
@@ -53,6 +53,11 @@ pub fn cycles_are_paths_back<R: Relation>()
 pub fn a_cycle_leaves_no_order<R: Relation>()
     ensures { (nodes : List ℕ) →
         IsWithin R.edges nodes → (node : ℕ) → IsOnCycle R.edges node → HasNoOrder R.edges nodes }
+{}
+
+/// A set of edges has one canonical cycle at most.
+pub fn one_canonical_cycle<R: Relation>()
+    ensures { (a b : List ℕ) → IsCanonicalCycle R.edges a → IsCanonicalCycle R.edges b → a ≡ b }
 {}
 
 /// Nodes have an order, or some node lies on a cycle, where a test tells the edges.
