@@ -22,3 +22,15 @@ last-more f key bound (Some e) other h = let below = h.0 in (omega (arith, below
 -- the number at the bound is the last one that has its key
 pub last-here : (f : ℕ → ℕ) (key bound : ℕ) → f bound ≡ key → IsLastBelow f key (bound + 1) (Some bound)
 last-here f key bound is = (omega arith, is, λ k low lt at. omega (arith, low, lt))
+
+-- one number less, which has another key
+pub last-less : (f : ℕ → ℕ) (key bound : ℕ) (r : Option ℕ) → f bound ≢ key → IsLastBelow f key (bound + 1) r → IsLastBelow f key bound r
+last-less f key bound None other h = λ k low lt is. h k low (omega (arith, lt)) is
+last-less f key bound (Some e) other h = (
+  elim (cases_eq e bound) [
+    | inl same ↦ absurd (other (ap f (sym same) ∙ h.1))
+    | inr differ ↦ (let lt = h.0 in omega (arith, lt, differ))
+  ],
+  h.1,
+  λ k low lt is. h.2 k low (omega (arith, lt)) is,
+)

@@ -5,3 +5,4 @@ mod Ends
 mod Viewed
 pub mod AtHand
 mod WholeGraph
+mod LinkRows

@@ -9,24 +9,31 @@ use std::marker::Model;
 /// A link to no place.
 pub const NONE: u32 = u32::MAX;
 
+/// A key, and a link to the place before it that has the same key.
+#[derive(Clone, Copy, Drop)]
+pub struct Link {
+    key: u32,
+    previous: u32,
+}
+
 /// A list of keys below a fixed number, of fixed room.
 /// All but `with_room` take constant time.
 #[derive(Drop)]
 pub struct Links {
     count: u32,
-    keys: Vec<u32>,
+    links: Vec<Link>,
     last: Vec<u32>,
-    previous: Vec<u32>,
 }
 
 impl Model for Links {
     ghost use Rattle.digraph.specs.KeyList.{KeyList, IsLinked, key_list_of};
+    ghost use Rattle.digraph.specs.LinkRows.{keys_of, previous_of};
 
     ghost Value = { KeyList };
 
-    ghost view = { λ l. key_list_of l.count l.keys.items l.last.items };
+    ghost view = { λ l. key_list_of l.count (keys_of l.links.items) l.last.items };
 
-    ghost invariant = { λ l. IsLinked l.count l.keys.items l.last.items l.previous.items };
+    ghost invariant = { λ l. IsLinked l.count (keys_of l.links.items) l.last.items (previous_of l.links.items) };
 }
 
 impl Links {
@@ -34,11 +41,14 @@ impl Links {
         ensures empty { IfOk result (λ l. l ≡ record { kinds = kinds; room = room; keys = [] }) }
         ensures sound { IfOk result IsKeyList }
     {
+        let none = Link {
+            key: 0,
+            previous: NONE,
+        };
         Ok(Links {
             count: 0,
-            keys: vec![in alloc; 0u32; room as usize]?,
+            links: vec![in alloc; none; room as usize]?,
             last: vec![in alloc; NONE; kinds as usize]?,
-            previous: vec![in alloc; NONE; room as usize]?,
         })
     }
 
@@ -62,9 +72,11 @@ impl Links {
         ensures sound { IsKeyList self.new }
     {
         let place = self.count;
-        self.previous[place as usize] = self.last[key as usize];
+        self.links[place as usize] = Link {
+            key,
+            previous: self.last[key as usize],
+        };
         self.last[key as usize] = place;
-        self.keys[place as usize] = key;
         self.count = place + 1;
     }
 
@@ -77,10 +89,10 @@ impl Links {
         ensures sound { IsKeyList self.new }
     {
         let place = self.count - 1;
-        let key = self.keys[place as usize];
-        self.last[key as usize] = self.previous[place as usize];
+        let link = self.links[place as usize];
+        self.last[link.key as usize] = link.previous;
         self.count = place;
-        key
+        link.key
     }
 
     pub fn key(&self, place: u32) -> u32
@@ -88,7 +100,7 @@ impl Links {
         ensures value { result ≡ slice_index self.now.keys place }
         ensures inside { result < self.now.kinds }
     {
-        self.keys[place as usize]
+        self.links[place as usize].key
     }
 
     /// The last place that has the key.
@@ -104,7 +116,7 @@ impl Links {
         requires { place < length self.now.keys }
         ensures { let keys = self.now.keys in IsLastBelow (slice_index keys) (slice_index keys place) place result }
     {
-        at(self.previous[place as usize])
+        at(self.links[place as usize].previous)
     }
 }
 
