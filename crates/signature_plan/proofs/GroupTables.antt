@@ -93,8 +93,8 @@ group_between p place lt =
     ∙ piece_at (groups p) place lt
 
 -- the rows of the test that contracts see
-pub tables_of : (q p : Program) (rows : List Group) → q ≡ p → Tabulates q rows → Tabulates p rows
-tables_of q p rows same t = subst (λ r. Tabulates r rows) same t
+pub tables_of : (q p : Program) (rows : List Group) {inverses : List ℕ} → q ≡ p → Tabulates q rows inverses → Tabulates p rows inverses
+tables_of q p rows {inverses = inverses} same t = subst (λ r. Tabulates r rows inverses) same t
 
 -- the group of a place, by the ranks of its loads
 pub record GroupAt (p : Program) (place first loads : ℕ) : Type 0 where
@@ -104,7 +104,7 @@ pub record GroupAt (p : Program) (place first loads : ℕ) : Type 0 where
   pub between : loads_between p first (first + loads) ≡ get_or (groups p) place []
   pub next : first + loads ≡ group_start p (place + 1)
 
-pub group_at : (p : Program) (rows : List Group) (place first : ℕ) (row : Group) → Tabulates p rows → place < length (groups p) → row ≡ get_or rows place row → first ≡ group_start p place → GroupAt p place first row.loads
+pub group_at : (p : Program) (rows : List Group) (place first : ℕ) (row : Group) {inverses : List ℕ} → Tabulates p rows inverses → place < length (groups p) → row ≡ get_or rows place row → first ≡ group_start p place → GroupAt p place first row.loads
 group_at p rows place first row t lt is first_is =
     let size = length (get_or (groups p) place []) in
     let loads : row.loads ≡ size = ap (λ (g : Group). g.loads) (row_at p rows place row t.rows_are lt is) in

@@ -5,6 +5,7 @@ ghost use Rattle.signature_plan.specs.Words.{group_values, loads_between};
 ghost use Rattle.test_lang.specs.Signatures.{Means, groups};
 ghost use Rattle.test_lang.specs.Values.{load_count};
 
+use crate::inverse::divided;
 use crate::plan::Plan;
 
 /// A word that no run has at its place: the product of the counts of its group isn't above it.
@@ -44,8 +45,9 @@ impl Plan {
     {
         for rank in first..end {
             let count = u64::from(self.candidates.count(rank));
-            out[rank as usize] = self.candidates.at(rank, (word % count) as u32);
-            word /= count;
+            let (quotient, place) = divided(word, count, self.inverses[rank as usize]);
+            out[rank as usize] = self.candidates.at(rank, place as u32);
+            word = quotient;
         }
     }
 
