@@ -2,7 +2,7 @@
 use Rattle.std.proofs.Common.{◌≡◌, ◌∙◌, ℕ, suc, ◌+◌, ◌-◌, ◌^◌, ◌<◌, ◌≤◌, List, [], ◌∷◌, All, map, take, drop, length, get_or, ap, arith, sym, subst, add-one, length-append}
 use Rattle.std.specs.List.{concat, flat_map}
 use Rattle.std.proofs.Math.Nat.{mul-le-mul}
-use Rattle.std.proofs.lemmas.List.{get_or-map, length-map}
+use Rattle.std.proofs.lemmas.List.{get_or-map, length-map, take_all}
 use Rattle.std.proofs.lemmas.List.Concat.{flat_map-cons}
 use Rattle.std.proofs.lemmas.List.Elements.{All-append, All-nil, All-head, All-tail}
 use Rattle.orders.specs.Orders.{nodes_below}
@@ -91,6 +91,13 @@ group_between p place lt =
     ap (λ (n : ℕ). take n (drop start (load_nodes p))) gap
     ∙ ap (λ loads. take size (drop start loads)) (sym (concat-groups p))
     ∙ piece_at (groups p) place lt
+
+-- behind the last group all loads were passed
+pub groups_all : (p : Program) (place first : ℕ) → length (groups p) ≤ place → first ≡ group_start p place → first ≡ load_count p
+groups_all p place first past first_is =
+    let all = ap (λ pieces. length (concat pieces)) (take_all place (groups p) past) ∙ ap length (concat-groups p) in
+    let loads = length-load_nodes p in
+    omega (arith, first_is, all, loads)
 
 -- the rows of the test that contracts see
 pub tables_of : (q p : Program) (rows : List Group) {inverses : List ℕ} → q ≡ p → Tabulates q rows inverses → Tabulates p rows inverses

@@ -10,3 +10,4 @@ pub mod GroupTables
 pub mod RankLoads
 pub mod WritingRuns
 mod Inverses
+mod InsideRanks

@@ -7,9 +7,11 @@ ghost use Rattle.test_lang.specs.Values.{load_count};
 
 use crate::inverse::divided;
 use crate::plan::Plan;
+use thiserror::Error;
 
 /// A word that no run has at its place: the product of the counts of its group isn't above it.
-#[derive(Clone, Copy, PartialEq, Eq, Debug, Drop)]
+#[derive(Clone, Copy, PartialEq, Eq, Debug, Drop, Error)]
+#[error("word {place} is {word}, and has to be below {limit}")]
 pub struct WordTooLarge {
     pub place: u32,
     pub word: u64,
