@@ -31,9 +31,9 @@ has_value_tells xs row value store f = tells xs value (place_of row value store)
 
 -- its place, where it is one's
 pub place_told : (xs : List ℕ) (row : LoadRow) (value : ℕ) (store : StoreRow) → FindsPlace xs value (found_place row value store) → (has : Bool) (place : ℕ) → has ≡ has_value row value store
-    → place ≡ place_of row value store → OnTrue has (position (λ candidate. candidate == value) xs ≡ Some place)
+    → (has_value row value store ≡ true → place ≡ place_of row value store) → OnTrue has (position (λ candidate. candidate == value) xs ≡ Some place)
 place_told xs row value store f true place h e =
-    sym (finds-position xs value (found_place row value store) f) ∙ ap (λ (b : Bool). cond b (Some (place_of row value store)) None) (sym h) ∙ ap Some (sym e)
+    sym (finds-position xs value (found_place row value store) f) ∙ ap (λ (b : Bool). cond b (Some (place_of row value store)) None) (sym h) ∙ ap Some (sym (e (sym h)))
 place_told xs row value store f false place h e = tt
 
 pub gives_none : (p : Program) (run : List ℕ) → IsTrue true ↔ GivesCandidates p run 0

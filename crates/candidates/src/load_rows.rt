@@ -1,5 +1,5 @@
 //! What the candidates of each load are, told by a few numbers.
-ghost use Rattle.std.specs.Prelude.{◌≡◌, ◌+◌, ◌-◌, ◌^◌, ◌<◌, ◌≤◌, [], ◌∷◌, IfOk, OnOk, length, map};
+ghost use Rattle.std.specs.Prelude.{◌≡◌, ◌+◌, ◌-◌, ◌^◌, ◌<◌, ◌≤◌, [], ◌∷◌, IfOk, OnOk, IsTrue, length, map};
 ghost use Rattle.candidates.specs.Reading.{found_place, has_value, list_place, place_of};
 ghost use Rattle.candidates.specs.Tables.{ListsStores, TellsBlocks, TellsLoads};
 ghost use Rattle.test_lang.specs.Program.{first_node, op_count, thread_length};
@@ -34,14 +34,15 @@ impl LoadRow {
         (value == self.base) | ((store.word == self.word) & is_other)
     }
 
-    /// The place of a candidate's value. Which candidate a load gives is up to chance, so no step branches on it.
+    /// The place of a candidate's value; another value's says nothing. Which candidate a load gives is up to chance, so no
+    /// step branches on it.
     pub fn place(&self, value: u32, store: StoreRow) -> u32
         requires skips { self.now.skips ≡ 0 ∷ (self.now.own_to - self.now.own_from) ∷ [] }
         requires room { store.place + 1 < 2 ^ 32 }
-        ensures { result ≡ place_of self.now value store }
+        ensures { IsTrue (has_value self.now value store) → result ≡ place_of self.now value store }
     {
         let skip = self.skips[usize::from(self.own_from <= store.place)];
-        u32::from(value != self.base) * (store.place.saturating_sub(skip) + 1)
+        u32::from(value != self.base) * store.place.wrapping_sub(skip).wrapping_add(1)
     }
 
     /// The place of a value, if it is a candidate's.

@@ -60,4 +60,4 @@ returns c =
     let found = finds_value p i.loads.items i.stores.rows.items lists tables c.args.rank row c.args.value store c.requires.rank c.index.ensures is in
     let has = (has_value_tells (candidates_at p c.args.rank) row c.args.value store found).1 c.requires.candidate in
     sym (finds-position (candidates_at p c.args.rank) c.args.value _ found)
-    ∙ ap (λ (b : Bool). cond b (Some (place_of row c.args.value store)) None) has ∙ ap Some (sym c.place.ensures)
+    ∙ ap (λ (b : Bool). cond b (Some (place_of row c.args.value store)) None) has ∙ ap Some (sym (c.place.ensures has))
