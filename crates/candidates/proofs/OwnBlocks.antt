@@ -156,6 +156,7 @@ module _ (p : Program) (t n : ℕ) where
     pub base_is : row.base ≡ stores.last
     pub from_is : row.own_from ≡ stores.from
     pub to_is : row.own_to ≡ stores.to
+    pub skips_are : row.skips ≡ 0 ∷ (stores.to - stores.from) ∷ []
     pub count_is : row.count ≡ length (stores_to p x) - (stores.to - stores.from) + 1
 
   tells : (x : ℕ) (stores : OwnStores) (row : LoadRow) → slice_get (nodes p) n ≡ Some (t, Load x) → x < p.words → TellsBlock p t x (first_node p t + thread_length p t) n stores → IsRow x stores row
@@ -176,6 +177,7 @@ module _ (p : Program) (t n : ℕ) where
         has_word = omega (arith, word_is, lt);
         base_is = i.base_is ∙ b.last_is ∙ sym (base-is p n t x e);
         block = omega (arith, from_is, to_is, from, to, from_to);
+        skips_are = let same : stores.to - stores.from ≡ row.own_to - row.own_from = omega (arith, from_is, to_is) in i.skips_are ∙ ap (λ (n : ℕ). 0 ∷ n ∷ []) same;
         within = omega (arith, to_is, to, to_all, all);
         others_are =
             others-block p n t x e

@@ -1,9 +1,9 @@
 -- The first load of a run whose value is no candidate's.
-use Rattle.std.proofs.Common.{length, ◌≡◌, ◌∙◌, ◌↔◌, ℕ, ◌+◌, ◌<◌, ◌≤◌, List, Bool, true, false, not, ◌&&◌, get_or, Contains, Option, None, Some, refl, ap, arith, sym, subst, ⊎_elim}
-use Rattle.std.specs.Prelude.{◌==◌, if◌then◌else◌, IsTrue, slice_get, slice_index}
+use Rattle.std.proofs.Common.{length, ◌≡◌, ◌∙◌, ◌↔◌, ℕ, ◌+◌, ◌<◌, ◌≤◌, List, Bool, true, false, not, ◌&&◌, cond, get_or, Contains, Option, None, Some, refl, ap, arith, sym, subst, ⊎_elim}
+use Rattle.std.specs.Prelude.{◌==◌, if◌then◌else◌, position, IsTrue, slice_get, slice_index}
 use Rattle.std.specs.List.{list_any, position_or_len}
 use Rattle.std.specs.Option.{is_some}
-use Rattle.std.specs.Bool.{Decides}
+use Rattle.std.specs.Bool.{Decides, OnTrue}
 use Rattle.std.proofs.lemmas.Bool.{and_parts, cases_eq, cases_lt, false_from_ne_true, not-false, not_from_false, not_from_true}
 use Rattle.std.proofs.lemmas.Bool.Decides.{Decides-eqb, Decides-by_or}
 use Rattle.std.proofs.lemmas.List.Elements.{Decides-contains}
@@ -18,7 +18,7 @@ use Rattle.candidates.specs.declared.load_rows.LoadRow.{LoadRow}
 use Rattle.candidates.specs.declared.store_lists.StoreRow.{StoreRow}
 use Rattle.candidates.specs.ByRank.{GivesCandidates, candidates_at, load_at}
 use Rattle.candidates.specs.Reading.{found_place, has_value, place_of}
-use Rattle.candidates.proofs.Lookups.{FindsPlace, finds-lacks, finds-contains}
+use Rattle.candidates.proofs.Lookups.{FindsPlace, finds-lacks, finds-contains, finds-position}
 
 -- whether the value of a row is a candidate's
 
@@ -28,6 +28,13 @@ tells xs value place false f = (λ h. absurd cc, λ h. absurd (finds-lacks xs va
 
 pub has_value_tells : (xs : List ℕ) (row : LoadRow) (value : ℕ) (store : StoreRow) → FindsPlace xs value (found_place row value store) → IsTrue (has_value row value store) ↔ Contains xs value
 has_value_tells xs row value store f = tells xs value (place_of row value store) (has_value row value store) f
+
+-- its place, where it is one's
+pub place_told : (xs : List ℕ) (row : LoadRow) (value : ℕ) (store : StoreRow) → FindsPlace xs value (found_place row value store) → (has : Bool) (place : ℕ) → has ≡ has_value row value store
+    → (has_value row value store ≡ true → place ≡ place_of row value store) → OnTrue has (position (λ candidate. candidate == value) xs ≡ Some place)
+place_told xs row value store f true place h e =
+    sym (finds-position xs value (found_place row value store) f) ∙ ap (λ (b : Bool). cond b (Some (place_of row value store)) None) (sym h) ∙ ap Some (sym (e (sym h)))
+place_told xs row value store f false place h e = tt
 
 pub gives_none : (p : Program) (run : List ℕ) → IsTrue true ↔ GivesCandidates p run 0
 gives_none p run = (λ h. record { each = λ rank lt. absurd (omega (arith, lt)) }, λ h. refl)

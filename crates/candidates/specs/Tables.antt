@@ -1,5 +1,5 @@
 -- The tables of candidates: the stores to each word, and where each store and each load stands among them.
-use Rattle.std.specs.Prelude.{◌≡◌, ℕ, ◌+◌, ◌<◌, ◌≤◌, List, ◌++◌, length, take, drop, count_by, Some, slice_get}
+use Rattle.std.specs.Prelude.{◌≡◌, ℕ, ◌+◌, ◌-◌, ◌<◌, ◌≤◌, List, [], ◌∷◌, ◌++◌, length, take, drop, count_by, Some, slice_get}
 use Rattle.candidates.specs.declared.store_lists.StoreRow.{StoreRow}
 use Rattle.candidates.specs.declared.load_rows.LoadRow.{LoadRow}
 use Rattle.candidates.specs.declared.load_rows.OwnStores.{OwnStores}
@@ -39,6 +39,7 @@ pub record TellsCandidates (p : Program) (load : ℕ) (row : LoadRow) : Type 0 w
   pub has_word : row.word < p.words
   pub base_is : row.base ≡ base p load
   pub block : row.own_from ≤ row.own_to
+  pub skips_are : row.skips ≡ 0 ∷ (row.own_to - row.own_from) ∷ []
   pub within : row.own_to ≤ length (stores_to p row.word)
   pub others_are : others p load ≡ take row.own_from (stores_to p row.word) ++ drop row.own_to (stores_to p row.word)
   pub count_is : row.count ≡ length (candidates p load)

@@ -1,5 +1,6 @@
 //! Candidates in tables, of a size in proportion to the test's, that answer in constant time.
 ghost use Rattle.std.specs.Prelude.{◌≡◌, ◌<◌, ◌≤◌, ◌↔◌, ◌==◌, ℕ, length, position, Contains, IfOk, IfSome, IsNone, IsTrue, Some, slice_get};
+ghost use Rattle.std.specs.Bool.{OnTrue};
 ghost use Rattle.std.specs.Option.{option_map};
 ghost use Rattle.candidates.specs.ByRank.{GivesCandidates, candidates_at, load_at};
 ghost use Rattle.test_lang.specs.Program.{IsWithinLimits};
@@ -97,6 +98,21 @@ impl Candidates {
     {
         let store = self.stores.rows[value as usize];
         self.loads[rank as usize].place(value, store)
+    }
+
+    /// The place of a value among the candidates, which says nothing where it is no candidate's, and whether it is one's. Which
+    /// candidate a load gives is up to chance, so no step branches on it.
+    #[inline(always)]
+    pub fn place_if_any(&self, rank: u32, value: u32) -> (u32, bool)
+        requires { rank < load_count self.now }
+        ensures candidate { IsTrue result.1 ↔ Contains (candidates_at self.now rank) value }
+        ensures place { OnTrue result.1 (position (λ candidate. candidate == value) (candidates_at self.now rank) ≡ Some result.0) }
+    {
+        let Some(store) = self.stores.row(value) else {
+            return (0, false);
+        };
+        let load = &self.loads[rank as usize];
+        (load.place(value, store), load.has(value, store))
     }
 
     /// Whether each load of the run gives a candidate's value. Which candidate it gives is up to chance, so no step branches on it.

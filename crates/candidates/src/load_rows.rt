@@ -1,5 +1,5 @@
 //! What the candidates of each load are, told by a few numbers.
-ghost use Rattle.std.specs.Prelude.{◌≡◌, ◌+◌, ◌-◌, ◌^◌, ◌<◌, ◌≤◌, IfOk, OnOk, IsTrue, length, map};
+ghost use Rattle.std.specs.Prelude.{◌≡◌, ◌+◌, ◌-◌, ◌^◌, ◌<◌, ◌≤◌, [], ◌∷◌, IfOk, OnOk, IsTrue, length, map};
 ghost use Rattle.candidates.specs.Reading.{found_place, has_value, list_place, place_of};
 ghost use Rattle.candidates.specs.Tables.{ListsStores, TellsBlocks, TellsLoads};
 ghost use Rattle.test_lang.specs.Program.{first_node, op_count, thread_length};
@@ -19,6 +19,8 @@ pub(crate) struct LoadRow {
     pub own_from: u32,
     /// Where it ends.
     pub own_to: u32,
+    /// How many stores are left out in front of a store before the block, and of one behind it.
+    pub skips: [u32; 2],
     /// The number of candidates.
     pub count: u32,
 }
@@ -32,20 +34,20 @@ impl LoadRow {
         (value == self.base) | ((store.word == self.word) & is_other)
     }
 
-    /// The place of a candidate's value. Which candidate a load gives is up to chance, so no step branches on it.
+    /// The place of a candidate's value; another value's says nothing. Which candidate a load gives is up to chance, so no
+    /// step branches on it.
     pub fn place(&self, value: u32, store: StoreRow) -> u32
-        requires block { self.now.own_from ≤ self.now.own_to }
+        requires skips { self.now.skips ≡ 0 ∷ (self.now.own_to - self.now.own_from) ∷ [] }
         requires room { store.place + 1 < 2 ^ 32 }
-        requires has { IsTrue (has_value self.now value store) }
-        ensures { result ≡ place_of self.now value store }
+        ensures { IsTrue (has_value self.now value store) → result ≡ place_of self.now value store }
     {
-        let own = u32::from(self.own_from <= store.place) * (self.own_to - self.own_from);
-        u32::from(value != self.base) * (store.place.saturating_sub(own) + 1)
+        let skip = self.skips[usize::from(self.own_from <= store.place)];
+        u32::from(value != self.base) * store.place.wrapping_sub(skip).wrapping_add(1)
     }
 
     /// The place of a value, if it is a candidate's.
     pub fn find(&self, value: u32, store: StoreRow) -> Option<u32>
-        requires block { self.now.own_from ≤ self.now.own_to }
+        requires skips { self.now.skips ≡ 0 ∷ (self.now.own_to - self.now.own_from) ∷ [] }
         requires room { store.place + 1 < 2 ^ 32 }
         ensures { result ≡ found_place self.now value store }
     {
@@ -85,13 +87,21 @@ impl OwnStores {
         requires block { self.from ≤ self.to }
         requires within { self.to ≤ stores }
         requires room { stores + 1 < 2 ^ 32 }
-        ensures { result ≡ record { word = word; base = self.last; own_from = self.from; own_to = self.to; count = stores - (self.to - self.from) + 1 } }
+        ensures { result ≡ record {
+          word = word;
+          base = self.last;
+          own_from = self.from;
+          own_to = self.to;
+          skips = 0 ∷ (self.to - self.from) ∷ [];
+          count = stores - (self.to - self.from) + 1;
+        } }
     {
         LoadRow {
             word,
             base: self.last,
             own_from: self.from,
             own_to: self.to,
+            skips: [0, self.to - self.from],
             count: stores - (self.to - self.from) + 1,
         }
     }

@@ -1,17 +1,13 @@
 -- One step of a reader of parts.
-use Rattle.std.proofs.Common.{◌≡◌, ◌≢◌, ℕ, suc, ◌+◌, ◌*◌, ◌<◌, ◌≤◌, List, [], ◌∷◌, ◌++◌, length, refl, ap, arith, ◌∙◌, sym, subst, Option, Some, None}
+use Rattle.std.proofs.Common.{◌≡◌, ◌≢◌, ℕ, suc, ◌+◌, ◌*◌, ◌^◌, ◌<◌, ◌≤◌, List, [], ◌∷◌, ◌++◌, Bool, true, cond, length, refl, ap, arith, ◌∙◌, sym, subst, Option, Some, None}
 use Rattle.std.specs.Option.{option_map}
-use Rattle.test_lang.specs.Text.Numeral.{numeral_at, held_front}
+use Rattle.std.proofs.lemmas.Bool.{lt-ltb}
+use Rattle.test_lang.specs.Text.Numeral.{numeral_at, held, held_front}
 use Rattle.run_text.specs.declared.parts.Found.{Found}
-use Rattle.run_text.specs.Parts.{gap, with_front, parts}
-use Rattle.run_text.specs.Found.{add_value, with_value, Keeps, MayKeep}
+use Rattle.run_text.specs.Parts.{fits, gap, with_front, in_front, parts}
+use Rattle.run_text.specs.Found.{add_value, kept, with_value, Keeps, MayKeep, SoFar}
 use Rattle.run_text.proofs.Reading.{behind, parts-space, parts-other, found-some, found-none}
 use Rattle.run_text.proofs.Keeping.{keeps-more}
-
--- these values, and then those of the rest
-abbrev pub in_front : List ℕ → Option (List ℕ) → Option (List ℕ)
-in_front [] rest = rest
-in_front (v ∷ vs) rest = with_front v (in_front vs rest)
 
 in_front-push : (vs : List ℕ) (v : ℕ) (rest : Option (List ℕ)) → in_front (vs ++ v ∷ []) rest ≡ in_front vs (with_front v rest)
 in_front-push [] v rest = refl
@@ -25,11 +21,24 @@ in_front-end : (vs : List ℕ) → in_front vs (Some []) ≡ Some vs
 in_front-end [] = refl
 in_front-end (v ∷ vs) = ap (with_front v) (in_front-end vs)
 
--- These values were read so far, and these bytes are left of all. Each value took two bytes at least.
-pub record SoFar (want : ℕ) (bytes left old : List ℕ) (found : Found) (new vs : List ℕ) : Type 0 where
-  pub few : 2 * found.count + length left ≤ length bytes
-  pub keeps : Keeps want old found new vs
-  pub rest : in_front vs (parts gap left) ≡ parts gap bytes
+-- The step over a part whose value is small.
+pub so_far-small : (want : ℕ) (bytes left old : List ℕ) (count : ℕ) (new vs : List ℕ) → SoFar want bytes left old (record { count = count; all_fit = true }) new vs → (v : ℕ) (rest : List ℕ)
+    → parts gap left ≡ with_front v (parts gap rest) → v < 1000 → length rest + 2 ≤ length left → count < want
+    → SoFar want bytes rest old (record { count = count + 1; all_fit = true }) (new ++ v ∷ []) (vs ++ v ∷ [])
+so_far-small want bytes left old count new vs h v rest here small shorter room =
+    let before : Found = record { count = count; all_fit = true } in
+    let as_held : v ≡ held v = omega arith in
+    let as_kept : kept v ≡ v = omega arith in
+    let fit : fits v ≡ true = lt-ltb v (2 ^ 32) (omega (arith, small)) in
+    let found : with_value before v ≡ record { count = count + 1; all_fit = true } = ap (λ (b : Bool). record { count = count + 1; all_fit = b }) fit in
+    let next : add_value count want v new ≡ new ++ v ∷ [] =
+    ap (λ (b : Bool). cond b (new ++ kept v ∷ []) new) (lt-ltb count want room) ∙ ap (λ (n : ℕ). new ++ n ∷ []) as_kept in
+    let keeps = keeps-more want v v old new vs before as_held h.keeps in
+    record {
+      few = omega (arith, h.few, shorter);
+      keeps = subst (λ (f : Found). Keeps want old f (new ++ v ∷ []) (vs ++ v ∷ [])) found (subst (λ (xs : List ℕ). Keeps want old (with_value before v) xs (vs ++ v ∷ [])) next keeps);
+      rest = in_front-push vs v (parts gap rest) ∙ ap (in_front vs) (sym here) ∙ h.rest;
+    }
 
 module _ (want : ℕ) (bytes left old : List ℕ) (found : Found) (new vs : List ℕ) (h : SoFar want bytes left old found new vs) where
   -- The step over one part: the values so far and one more.

@@ -1,7 +1,7 @@
 -- What a reader of parts finds and keeps.
-use Rattle.std.specs.Prelude.{◌≡◌, ℕ, ◌+◌, ◌-◌, ◌^◌, List, [], ◌∷◌, ◌++◌, ◌&&◌, Option, Some, None, nat_lt, if◌then◌else◌, min, map, take, length}
+use Rattle.std.specs.Prelude.{◌≡◌, ℕ, ◌+◌, ◌*◌, ◌≤◌, ◌-◌, ◌^◌, List, [], ◌∷◌, ◌++◌, ◌&&◌, Option, Some, None, nat_lt, if◌then◌else◌, min, map, take, length}
 use Rattle.run_text.specs.declared.parts.Found.{Found}
-use Rattle.run_text.specs.Parts.{fits, all_fit}
+use Rattle.run_text.specs.Parts.{fits, all_fit, gap, in_front, parts}
 
 -- a value as it is kept, which is itself where it fits
 abbrev pub kept : ℕ → ℕ
@@ -25,3 +25,9 @@ MayKeep want old (Some found) new (Some vs) = Keeps want old found new vs
 MayKeep want old (Some found) new None = ⊥
 MayKeep want old None new (Some vs) = ⊥
 MayKeep want old None new None = Unit {0}
+
+-- These values were read so far, and these bytes are left of all. Each value took two bytes at least.
+pub record SoFar (want : ℕ) (bytes left old : List ℕ) (found : Found) (new vs : List ℕ) : Type 0 where
+  pub few : 2 * found.count + length left ≤ length bytes
+  pub keeps : Keeps want old found new vs
+  pub rest : in_front vs (parts gap left) ≡ parts gap bytes

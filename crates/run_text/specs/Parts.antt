@@ -13,6 +13,11 @@ abbrev pub with_front : ℕ → Option (List ℕ) → Option (List ℕ)
 with_front v None = None
 with_front v (Some vs) = Some (v ∷ vs)
 
+-- these values, and then those of the rest
+abbrev pub in_front : List ℕ → Option (List ℕ) → Option (List ℕ)
+in_front [] rest = rest
+in_front (v ∷ vs) rest = with_front v (in_front vs rest)
+
 -- The values of the parts from a place on, if the bytes have that form.
 abbrev pub parts : Place → List ℕ → Option (List ℕ)
 parts gap [] = Some []

@@ -6,5 +6,6 @@ pub mod laws;
 mod parts;
 mod run_line;
 pub mod run_lines;
+mod small_parts;
 #[cfg(test)]
 mod tests;

@@ -3,6 +3,7 @@ ghost use Rattle.std.specs.Prelude.{◌≡◌, ◌<◌, ◌+◌, ◌^◌, length
 ghost use Rattle.run_text.specs.Parts.{parts, gap};
 ghost use Rattle.run_text.specs.Found.{with_value, add_value, MayKeep};
 
+use crate::small_parts::read_small;
 use std::alloc::AllocError;
 use test_lang::text::numeral::{HELD, numeral};
 
@@ -44,11 +45,7 @@ pub fn read_parts(
         (λ found. MayKeep want values.old.items found values.new.items (parts gap bytes.now)) }
     ensures front { take (vec_len values.old) values.new.items ≡ values.old.items }
 {
-    let mut found = Found {
-        count: 0,
-        all_fit: true,
-    };
-    let mut left = bytes;
+    let (mut found, mut left) = read_small(bytes, want, values)?;
     'parts: while let Some((first, behind)) = left.split_first() {
         if *first != b' ' {
             return Ok(None);

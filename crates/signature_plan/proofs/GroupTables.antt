@@ -2,7 +2,7 @@
 use Rattle.std.proofs.Common.{◌≡◌, ◌∙◌, ℕ, suc, ◌+◌, ◌-◌, ◌^◌, ◌<◌, ◌≤◌, List, [], ◌∷◌, All, map, take, drop, length, get_or, ap, arith, sym, subst, add-one, length-append}
 use Rattle.std.specs.List.{concat, flat_map}
 use Rattle.std.proofs.Math.Nat.{mul-le-mul}
-use Rattle.std.proofs.lemmas.List.{get_or-map, length-map}
+use Rattle.std.proofs.lemmas.List.{get_or-map, length-map, take_all}
 use Rattle.std.proofs.lemmas.List.Concat.{flat_map-cons}
 use Rattle.std.proofs.lemmas.List.Elements.{All-append, All-nil, All-head, All-tail}
 use Rattle.orders.specs.Orders.{nodes_below}
@@ -92,9 +92,16 @@ group_between p place lt =
     ∙ ap (λ loads. take size (drop start loads)) (sym (concat-groups p))
     ∙ piece_at (groups p) place lt
 
+-- behind the last group all loads were passed
+pub groups_all : (p : Program) (place first : ℕ) → length (groups p) ≤ place → first ≡ group_start p place → first ≡ load_count p
+groups_all p place first past first_is =
+    let all = ap (λ pieces. length (concat pieces)) (take_all place (groups p) past) ∙ ap length (concat-groups p) in
+    let loads = length-load_nodes p in
+    omega (arith, first_is, all, loads)
+
 -- the rows of the test that contracts see
-pub tables_of : (q p : Program) (rows : List Group) → q ≡ p → Tabulates q rows → Tabulates p rows
-tables_of q p rows same t = subst (λ r. Tabulates r rows) same t
+pub tables_of : (q p : Program) (rows : List Group) {inverses : List ℕ} → q ≡ p → Tabulates q rows inverses → Tabulates p rows inverses
+tables_of q p rows {inverses = inverses} same t = subst (λ r. Tabulates r rows inverses) same t
 
 -- the group of a place, by the ranks of its loads
 pub record GroupAt (p : Program) (place first loads : ℕ) : Type 0 where
@@ -104,7 +111,7 @@ pub record GroupAt (p : Program) (place first loads : ℕ) : Type 0 where
   pub between : loads_between p first (first + loads) ≡ get_or (groups p) place []
   pub next : first + loads ≡ group_start p (place + 1)
 
-pub group_at : (p : Program) (rows : List Group) (place first : ℕ) (row : Group) → Tabulates p rows → place < length (groups p) → row ≡ get_or rows place row → first ≡ group_start p place → GroupAt p place first row.loads
+pub group_at : (p : Program) (rows : List Group) (place first : ℕ) (row : Group) {inverses : List ℕ} → Tabulates p rows inverses → place < length (groups p) → row ≡ get_or rows place row → first ≡ group_start p place → GroupAt p place first row.loads
 group_at p rows place first row t lt is first_is =
     let size = length (get_or (groups p) place []) in
     let loads : row.loads ≡ size = ap (λ (g : Group). g.loads) (row_at p rows place row t.rows_are lt is) in

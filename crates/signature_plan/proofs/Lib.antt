@@ -9,3 +9,5 @@ pub mod LongestCuts
 pub mod GroupTables
 pub mod RankLoads
 pub mod WritingRuns
+mod Inverses
+mod InsideRanks

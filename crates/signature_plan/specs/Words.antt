@@ -1,5 +1,6 @@
 -- Words as numbers in a mixed radix, and the run that words mean.
-use Rattle.std.specs.Prelude.{ℕ, ◌+◌, ◌-◌, ◌*◌, ◌/◌, ◌%◌, List, [], ◌∷◌, ◌++◌, take, drop, slice_index}
+use Rattle.std.specs.Prelude.{ℕ, ◌+◌, ◌-◌, ◌*◌, ◌/◌, ◌%◌, ◌<◌, ◌≤◌, List, Contains, [], ◌∷◌, ◌++◌, take, drop, slice_index}
+use Rattle.candidates.specs.ByRank.{candidates_at}
 use Rattle.test_lang.specs.Program.{Program}
 use Rattle.test_lang.specs.Runs.{candidates}
 use Rattle.test_lang.specs.Values.{load_nodes}
@@ -13,6 +14,10 @@ mixed_radix count place (load ∷ loads) = place load + count load * mixed_radix
 -- the loads of the ranks from first to before end
 abbrev pub loads_between : Program → ℕ → ℕ → List ℕ
 loads_between p first end = take (end - first) (drop first (load_nodes p))
+
+-- The loads of these ranks give candidates' values.
+pub record ReadCandidates (p : Program) (run : List ℕ) (first end : ℕ) : Type 0 where
+  pub each : (rank : ℕ) → first ≤ rank → rank < end → Contains (candidates_at p rank) (slice_index run rank)
 
 -- The values that a word gives the loads of its group: the candidates at its digits.
 abbrev pub group_values : Program → ℕ → List ℕ → List ℕ

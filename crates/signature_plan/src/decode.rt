@@ -5,10 +5,13 @@ ghost use Rattle.signature_plan.specs.Words.{group_values, loads_between};
 ghost use Rattle.test_lang.specs.Signatures.{Means, groups};
 ghost use Rattle.test_lang.specs.Values.{load_count};
 
+use crate::inverse::divided;
 use crate::plan::Plan;
+use thiserror::Error;
 
 /// A word that no run has at its place: the product of the counts of its group isn't above it.
-#[derive(Clone, Copy, PartialEq, Eq, Debug, Drop)]
+#[derive(Clone, Copy, PartialEq, Eq, Debug, Drop, Error)]
+#[error("word {place} is {word}, and has to be below {limit}")]
 pub struct WordTooLarge {
     pub place: u32,
     pub word: u64,
@@ -44,8 +47,9 @@ impl Plan {
     {
         for rank in first..end {
             let count = u64::from(self.candidates.count(rank));
-            out[rank as usize] = self.candidates.at(rank, (word % count) as u32);
-            word /= count;
+            let (quotient, place) = divided(word, count, self.inverses[rank as usize]);
+            out[rank as usize] = self.candidates.at(rank, place as u32);
+            word = quotient;
         }
     }
 

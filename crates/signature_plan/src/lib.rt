@@ -4,6 +4,7 @@
 mod decode;
 mod encode;
 mod group_rows;
+mod inverse;
 pub mod laws;
 mod outcomes;
 mod plan;

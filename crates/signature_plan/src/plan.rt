@@ -5,6 +5,7 @@ ghost use Rattle.test_lang.specs.Signatures.{groups};
 ghost use Rattle.test_lang.specs.Values.{load_count};
 
 use crate::group_rows::{Group, cut_loads};
+use crate::inverse::list_inverses;
 use candidates::Candidates;
 use std::alloc::{AllocError, Global};
 use std::marker::Model;
@@ -15,6 +16,8 @@ use test_lang::test::Test;
 pub struct Plan {
     pub(crate) candidates: Candidates,
     pub(crate) groups: Vec<Group>,
+    /// The inverses of the loads' numbers of candidates, by rank.
+    pub(crate) inverses: Vec<u64>,
 }
 
 impl Model for Plan {
@@ -25,7 +28,7 @@ impl Model for Plan {
 
     ghost view = { λ p. p.candidates };
 
-    ghost invariant = { λ p. Tabulates p.candidates p.groups.items };
+    ghost invariant = { λ p. Tabulates p.candidates p.groups.items p.inverses.items };
 }
 
 impl Plan {
@@ -35,7 +38,12 @@ impl Plan {
     {
         let candidates = Candidates::of(alloc, test)?;
         let groups = cut_loads(alloc, &candidates)?;
-        Ok(Plan { candidates, groups })
+        let inverses = list_inverses(alloc, &candidates)?;
+        Ok(Plan {
+            candidates,
+            groups,
+            inverses,
+        })
     }
 
     /// The number of words of a signature.

@@ -2,7 +2,7 @@
 use Rattle.std.proofs.Common.{◌≡◌, ◌∙◌, ℕ, zero, suc, ◌+◌, ◌-◌, ◌<◌, ◌≤◌, List, [], ◌∷◌, ◌++◌, length, take, drop, get_or, set, replicate, refl, sym, ap, subst, arith, Some, append_assoc, add-one, length-append, length-drop, All}
 use Rattle.std.specs.Prelude.{IsPermutation, sum_by}
 use Rattle.std.proofs.Math.Seq.{drop-append_seam, take-length}
-use Rattle.std.proofs.lemmas.List.{append-nil, drop-append-le, take-append-le, map-append, length-map, length-replicate}
+use Rattle.std.proofs.lemmas.List.{append-nil, drop-append-le, get_or-map, take-append-le, map-append, length-map, length-replicate}
 use Rattle.std.proofs.lemmas.List.Elements.{All-get_or, All-head, All-pop, All-push, All-set, All-tail, All-weaker}
 use Rattle.std.proofs.lemmas.List.Sorted.{IsPermutation-append_right, IsPermutation-map, IsPermutation-to_front, length_permutation, sum_by-IsPermutation}
 use Rattle.std.proofs.lemmas.List.Sums.{sum_by-cons}
@@ -22,6 +22,16 @@ row-longer words more width start h =
 
 pub length-rows_at : (words : List ℕ) (width : ℕ) (places : List Place) → length (rows_at words width places) ≡ length places
 length-rows_at words width places = let entry : Place → List ℕ × ℕ = λ place. (take width (drop place.start words), place.times) in length-map places entry
+
+-- the row of a place
+pub row-at : (words : List ℕ) (width : ℕ) (places : List Place) (i start : ℕ) (place : Place) (row : List ℕ) → i < length places → place ≡ get_or places i place → place.start ≡ start
+    → take width (drop start words) ≡ row → (get_or (rows_at words width places) i (row, 0)).0 ≡ row
+row-at words width places i start place row lt here begins is =
+    let entry : Place → List ℕ × ℕ = λ p. (take width (drop p.start words), p.times) in
+    ap (λ (e : List ℕ × ℕ). e.0) (get_or-map entry places i place (row, 0) lt)
+    ∙ ap (λ (p : Place). take width (drop p.start words)) (sym here)
+    ∙ ap (λ n. take width (drop n words)) begins
+    ∙ is
 
 -- more words behind leave the rows
 pub rows_at-longer : (words more : List ℕ) (width : ℕ) (places : List Place) → All (Fits words width) places → rows_at (words ++ more) width places ≡ rows_at words width places

@@ -2,13 +2,13 @@
 ghost use Rattle.std.specs.Prelude.{◌≡◌, ℕ, ◌+◌, ◌-◌, ◌^◌, ◌<◌, ◌≤◌, ◌↔◌, List, [], ◌∷◌, ◌++◌, length, take, drop, IsNone, IsPermutation, IfOk, IfSome, OnOk, OnErr, slice_index_or};
 ghost use Rattle.tally.specs.Counting.{EndsWith, all_rows};
 
-use crate::guesses::{Guesses, WAYS, hash};
+use crate::guesses::{Guesses, NONE, WAYS, hash};
 use std::alloc::{AllocError, Global};
 use std::cmp::Ordering;
 use std::marker::Model;
 
-/// So many places fill a batch.
-const ROWS: usize = 1 << 16;
+/// So many places fill a batch: as many as guesses tell apart.
+const ROWS: usize = NONE as usize;
 
 /// So many words fill a batch, however few rows they make.
 const WORDS: usize = 1 << 18;
@@ -83,7 +83,8 @@ impl Batch {
         Ok(())
     }
 
-    /// Where the row stands, if a guess leads there, and otherwise the way on which it is guessed from now on.
+    /// Where the row stands, if a guess leads there, and otherwise the way on which it is guessed from now on. New rows begin a
+    /// width apart, so a row is compared without a look at its place, which is read meanwhile.
     fn find(&self, row: &[u64], hash: u64) -> Result<usize, usize>
         ensures { IfOk result (λ place. (place < length self.now.rows) × ((slice_index_or self.now.rows place (row.now, 0)).0 ≡ row.now)) }
     {
@@ -91,7 +92,9 @@ impl Batch {
             let Some(place) = self.guesses.at(hash, way) else {
                 return Err(way);
             };
-            if place < self.places.len() && self.row(place) == row {
+            let start = place.wrapping_mul(self.width);
+            let is_same = row_at(&self.words, self.width, start) == row;
+            if is_same && place < self.places.len() && self.places[place].start == start {
                 return Ok(place);
             }
         }
@@ -130,7 +133,7 @@ impl Batch {
         Ok(())
     }
 
-    /// Puts the rows in order, in time of n log n comparisons.
+    /// Puts the rows in order, in time of n log n comparisons. Only the speed of counting them rests on the order.
     pub(crate) fn sort(&mut self)
         ensures width { self.new.width ≡ self.old.width }
         ensures permutation { IsPermutation self.old.rows self.new.rows }

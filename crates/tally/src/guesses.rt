@@ -7,8 +7,8 @@ const SLOTS: usize = 1 << 17;
 /// How many of them a row has.
 pub(crate) const WAYS: usize = 4;
 
-/// No guess.
-const NONE: u32 = u32::MAX;
+/// No guess. Guesses are small, so that the table stays near the processor.
+pub(crate) const NONE: u16 = u16::MAX;
 
 /// An odd number that spreads the bits of a word over the high ones: 2^64 divided by the golden ratio.
 const SPREAD: u64 = 0x9e37_79b9_7f4a_7c15;
@@ -16,7 +16,7 @@ const SPREAD: u64 = 0x9e37_79b9_7f4a_7c15;
 /// A table of guesses. It takes no memory before the first one.
 #[derive(Drop)]
 pub(crate) struct Guesses {
-    slots: Vec<u32>,
+    slots: Vec<u16>,
 }
 
 /// A number by which rows are told apart, mostly.
@@ -43,7 +43,7 @@ impl Guesses {
     /// The guess on a way for a row with this hash.
     pub(crate) fn at(&self, hash: u64, way: usize) -> Option<usize> {
         match self.slots.get(slot(hash, way)) {
-            Some(&place) if place != NONE => Some(place as usize),
+            Some(&place) if place != NONE => Some(usize::from(place)),
             _ => None,
         }
     }
@@ -54,7 +54,7 @@ impl Guesses {
             self.slots.resize(SLOTS, NONE)?;
         }
         if let Some(guess) = self.slots.get_mut(slot(hash, way)) {
-            *guess = u32::try_from(place).unwrap_or(NONE);
+            *guess = u16::try_from(place).unwrap_or(NONE);
         }
         Ok(())
     }

@@ -85,7 +85,7 @@ loop-node-preserved c =
           let block = c.loop-node.invariant.blocks.blocks word stores (slice_get-get_or own word none (omega (arith, one, within))) in
           let all = list_length p c.args.stores.now.rows.items c.args.stores.now.lists.items w.index.result.now word w.len-all.result c.requires.listed within w.index.ensures w.len-all.ensures in
           let told = w.load_row.ensures in
-          let row : IsRow p t n word stores w.load_row.result = rw told (record { word_is = refl; base_is = refl; from_is = refl; to_is = refl; count_is = omega (arith, all) }) in
+          let row : IsRow p t n word stores w.load_row.result = rw told (record { word_is = refl; base_is = refl; from_is = refl; to_is = refl; skips_are = refl; count_is = omega (arith, all) }) in
           rw (w.own-is, w.rows-is) (record {
             blocks = blocks_no_store p t n end (Load word) own is refl c.loop-node.invariant.blocks;
             loads = rw w.in_ok-push-in-Load.ensures.items (loads_load p t n word stores w.load_row.result rows is within block row c.loop-node.invariant.loads);

@@ -1,5 +1,5 @@
 use Rattle.std.proofs.Common.{length}
-use Rattle.run_text.proofs.Steps.{SoFar}
+use Rattle.run_text.specs.Found.{SoFar}
 use Rattle.run_text.proofs.parts.read_parts.Given as goal
 
 -- The values so far, whichever they are, and then those of what is left.

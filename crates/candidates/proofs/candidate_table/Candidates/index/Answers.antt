@@ -15,7 +15,7 @@ find-requires c =
     let tables = tables_of i.test p i.loads.items i.stores.rows.items lists c.self.view_is c.self.invariant in
     let told = row_told p i.loads.items i.stores.rows.items lists tables c.args.rank c.index.result.now c.requires c.index.ensures in
     let short = short_place p i.loads.items i.stores.rows.items lists tables c.args.value c.in_ok-store.store (sym c.in_ok-store.ensures) in
-    record { block = told.block; room = omega (arith, short) }
+    record { skips = told.skips_are; room = omega (arith, short) }
 
 pub returns-in_err-store : goal.returns-in_err-store
 returns-in_err-store c =

@@ -45,8 +45,7 @@ place-requires c =
     let within = has_row p i.loads.items i.stores.rows.items lists tables c.args.rank c.args.value c.requires.rank c.requires.candidate in
     let is = slice_get_read i.stores.rows.items (length i.stores.rows.items) c.args.value store refl within c.index-store.ensures in
     let short = short_place p i.loads.items i.stores.rows.items lists tables c.args.value store is in
-    let tells = has_value_tells (candidates_at p c.args.rank) row c.args.value store (finds_value p i.loads.items i.stores.rows.items lists tables c.args.rank row c.args.value store c.requires.rank c.index.ensures is) in
-    record { block = told.block; room = omega (arith, short); has = tells.1 c.requires.candidate }
+    record { skips = told.skips_are; room = omega (arith, short) }
 
 pub returns : goal.returns
 returns c =
@@ -61,4 +60,4 @@ returns c =
     let found = finds_value p i.loads.items i.stores.rows.items lists tables c.args.rank row c.args.value store c.requires.rank c.index.ensures is in
     let has = (has_value_tells (candidates_at p c.args.rank) row c.args.value store found).1 c.requires.candidate in
     sym (finds-position (candidates_at p c.args.rank) c.args.value _ found)
-    ∙ ap (λ (b : Bool). cond b (Some (place_of row c.args.value store)) None) has ∙ ap Some (sym c.place.ensures)
+    ∙ ap (λ (b : Bool). cond b (Some (place_of row c.args.value store)) None) has ∙ ap Some (sym (c.place.ensures has))

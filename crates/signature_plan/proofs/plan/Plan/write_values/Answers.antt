@@ -1,5 +1,5 @@
-use Rattle.std.proofs.Common.{◌≡◌, ◌∙◌, ◌++◌, ℕ, ◌%◌, ◌<◌, take, drop, length, ap, sym, arith, take-append-drop}
-use Rattle.std.specs.Prelude.{slice_index}
+use Rattle.std.proofs.Common.{◌≡◌, ◌∙◌, ◌++◌, ℕ, ◌%◌, ◌<◌, take, drop, length, ap, subst, sym, arith, take-append-drop, Some}
+use Rattle.std.specs.Prelude.{slice_get, slice_index}
 use Rattle.std.proofs.Math.Nat.{mod-lt}
 use Rattle.std.proofs.lemmas.Option.{get_or_from_slice_get}
 use Rattle.test_lang.specs.Values.{load_count}
@@ -19,10 +19,11 @@ loop-rank-preserved c =
     let long = c.loop-rank.auto.out in
     let count : c.from-count.result ≡ candidate_count p (load_at p rank) = c.from-count.ensures ∙ c.count.ensures.count ∙ ap (λ q. length (candidates_at q rank)) c.self.view_is in
     let value : c.at.result ≡ slice_index (candidates_at p rank) (c.loop-rank.word % c.from-count.result) =
-    sym (get_or_from_slice_get (candidates_at c.self.inside.candidates rank) (c.loop-rank.word % c.from-count.result) c.at.result 0 c.at.ensures)
+    sym (get_or_from_slice_get (candidates_at c.self.inside.candidates rank) (c.loop-rank.word % c.from-count.result) c.at.result 0
+    (subst (λ (k : ℕ). slice_get (candidates_at c.self.inside.candidates rank) k ≡ Some c.at.result) c.divided-quotient.ensures.rest c.at.ensures))
     ∙ ap (λ q. slice_index (candidates_at q rank) (c.loop-rank.word % c.from-count.result)) c.self.view_is in
     record {
-      written = value_more p c.loop-rank.out c.loop-rank.word c.from-count.result c.at.result rank c.args.end before within (omega (arith, before, within, loads, long)) count value ∙ c.loop-rank.invariant.written;
+      written = rw c.divided-quotient.ensures.quotient (value_more p c.loop-rank.out c.loop-rank.word c.from-count.result c.at.result rank c.args.end before within (omega (arith, before, within, loads, long)) count value ∙ c.loop-rank.invariant.written);
       behind = behind_more p c.loop-rank.out c.args.out.now rank c.at.result c.loop-rank.invariant.behind;
     }
 
