@@ -3,7 +3,7 @@ use Rattle.std.proofs.Common.{◌≡◌, ◌∙◌, ℕ, ◌<◌, List, [], ◌�
 use Rattle.orders.specs.Orders.{IsLeastOrder, NotAfter}
 
 -- two lists that aren't after each other are the same
-NotAfter-both : (xs ys : List ℕ) → NotAfter xs ys → NotAfter ys xs → xs ≡ ys
+pub NotAfter-both : (xs ys : List ℕ) → NotAfter xs ys → NotAfter ys xs → xs ≡ ys
 NotAfter-both [] [] p q = refl
 NotAfter-both [] (y ∷ ys) p q = absurd q
 NotAfter-both (x ∷ xs) [] p q = absurd p

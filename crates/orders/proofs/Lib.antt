@@ -6,3 +6,4 @@ pub mod FewEdges
 pub mod Distinct
 pub mod OrderOrCycle
 pub mod CyclesOfPaths
+pub mod OneCycle

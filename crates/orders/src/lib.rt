@@ -2,7 +2,7 @@
 #![tactic(auto)]
 
 ghost use Rattle.std.specs.Prelude.{◌≡◌, ◌≢◌, ◌↔◌, ◌⊎◌, ℕ, List, Bool, IsTrue, AllPairs};
-ghost use Rattle.orders.specs.Cycles.{IsOnCycle};
+ghost use Rattle.orders.specs.Cycles.{IsCanonicalCycle, IsOnCycle};
 ghost use Rattle.orders.specs.Orders.{HasNoOrder, IsAcyclic, IsLeastOrder, IsOrder};
 ghost use Rattle.orders.specs.Paths.{Reach};
 ghost use Rattle.orders.specs.Reductions.{IsAmong, IsReaching, IsWithin};
@@ -17,6 +17,12 @@ pub trait Relation {
 pub fn one_least_order<R: Relation>()
     ensures { (nodes a b : List ℕ) →
         IsLeastOrder R.edges nodes a → IsLeastOrder R.edges nodes b → a ≡ b }
+{}
+
+/// A set of edges has one canonical cycle at most.
+pub fn one_canonical_cycle<R: Relation>()
+    ensures { (a b : List ℕ) →
+        IsCanonicalCycle R.edges a → IsCanonicalCycle R.edges b → a ≡ b }
 {}
 
 /// The order that has at each place the least node whose predecessors all stand before it is the least order.
