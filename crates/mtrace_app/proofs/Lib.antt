@@ -7,3 +7,6 @@ pub mod JudgedSoFar
 pub mod RecordedAnswers
 pub mod Written
 pub mod OneMeaning
+pub mod OneReport
+pub mod SomeMeaning
+pub mod Complete

@@ -11,11 +11,11 @@ use Rattle.mtrace_app.specs.declared.input_fault.InputFault.{InputFault}
 use Rattle.mtrace_app.specs.declared.input_fault.InputFault.TheVariants.{Test, Runs}
 use Rattle.mtrace_app.specs.Recorded.{IsRecorded, IsRefusedInput, behind_test}
 
-same_test : (bytes : List ℕ) (p q : Program) (rest others : List ℕ) → StartsWithTest bytes p rest → StartsWithTest bytes q others → p ≡ q
+pub same_test : (bytes : List ℕ) (p q : Program) (rest others : List ℕ) → StartsWithTest bytes p rest → StartsWithTest bytes q others → p ≡ q
 same_test bytes p q rest others a b =
     let same = sym (means_reading bytes (Ok p) (rest, a)) ∙ means_reading bytes (Ok q) (others, b) in cc
 
-same_rest : (bytes : List ℕ) (p q : Program) (rest others : List ℕ) → StartsWithTest bytes p rest → StartsWithTest bytes q others → rest ≡ others
+pub same_rest : (bytes : List ℕ) (p q : Program) (rest others : List ℕ) → StartsWithTest bytes p rest → StartsWithTest bytes q others → rest ≡ others
 same_rest bytes p q rest others a b =
     let texts : test_text p ≡ test_text q = ap test_text (same_test bytes p q rest others a b) in
     append_cancel_left (test_text q) rest others (ap (λ (t : List ℕ). t ++ rest) (sym texts) ∙ sym a.whole ∙ b.whole)

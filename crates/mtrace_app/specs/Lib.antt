@@ -11,3 +11,4 @@ pub mod Reporting
 pub mod Input
 pub mod Answer
 pub mod Causes
+pub mod Complete

@@ -1,11 +1,12 @@
 //! The call that does all that the program does.
-ghost use Rattle.std.specs.Prelude.{◌≡◌, ◌≢◌, ◌⊎◌, ◌≤◌, ℕ, List};
+ghost use Rattle.std.specs.Prelude.{◌≡◌, ◌≢◌, ◌⊎◌, ◌≤◌, ◌^◌, ℕ, List, length, IfSome};
 ghost use Rattle.std.specs.Io.KnownBytes.{Appends, Keeps};
 ghost use Rattle.mt_base.specs.Faults.{Rose};
 ghost use Rattle.command_line.specs.declared.meaning.Settings.{Settings};
 ghost use Rattle.command_line.specs.Settings.{HasNoSettings, HasSettings};
 ghost use Rattle.mtrace_app.specs.Answer.{IsWritten, line_of_answer, status_of};
 ghost use Rattle.mtrace_app.specs.Causes.{IsCaused, TellsStatus, Writes};
+ghost use Rattle.mtrace_app.specs.Complete.{IsAnswered};
 ghost use Rattle.mtrace_app.specs.Reading.{IsPastLimit, IsRestOf, WhereTold};
 ghost use Rattle.mtrace_app.specs.Status.{message};
 ghost use Rattle.mtrace_app.specs.Words.{IsCheck, texts};
@@ -44,6 +45,13 @@ pub fn mtrace<S: Source, K: Sink, E: Sink, G: Gate + Sync>(
     ensures write_fault { result ≡ Status.WriteFault → Rose (K.faults sink.old) (K.faults sink.new) }
     ensures rest { IsRestOf (S.left source.old) (S.left source.new) }
     ensures source_later { S.faults source.old ≤ S.faults source.new }
+
+    // `check`: bytes within the limit that are read without a fault are answered by what they say.
+    // Nothing but want of memory keeps that back.
+    ensures complete { (s : Settings) → HasSettings (texts words.now) s → IsCheck s
+        → ¬ (Rose (S.faults source.old) (S.faults source.new))
+        → IfSome (S.left source.old) (λ bytes. length bytes ≤ 2 ^ 30
+        → IsAnswered s.chunk bytes (K.faults sink.old) (K.faults sink.new) result) }
 
     // The sink gets the report of the recorded runs, or a front of it where it fails, or nothing.
     ensures report { (s : Settings) → HasSettings (texts words.now) s → IsCheck s → Writes s.model s.chunk (S.left source.old) (K.held sink.old) (K.held sink.new) result }

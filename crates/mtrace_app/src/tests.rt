@@ -249,6 +249,16 @@ fn reports_of_runs(rt: HostRuntime) -> Result<(), Fail> {
             work chunks 1 full 1 kept 0 resorted 0 nodes 0\n",
         ),
         (
+            tso,
+            MESSAGE_PASSING_FENCES,
+            "run 2 0\ndone\n",
+            Status::Found,
+            "mtrace 1\nmodel tso\nruns 1\n\
+            sig 0000000000000001 count 1 cycle 0 2 3 5\n\
+            sum signatures 1 ok 0 cycle 1 outside 0\n\
+            work chunks 1 full 1 kept 0 resorted 0 nodes 0\n",
+        ),
+        (
             weak,
             MESSAGE_PASSING_FENCES,
             "run 2 0\ndone\n",
@@ -259,6 +269,26 @@ fn reports_of_runs(rt: HostRuntime) -> Result<(), Fail> {
             work chunks 1 full 1 kept 0 resorted 0 nodes 0\n",
         ),
         // Two loads see two stores of another thread in the other order.
+        (
+            sc,
+            STORES_AGAINST_LOADS,
+            "run 2 1\ndone\n",
+            Status::Found,
+            "mtrace 1\nmodel sc\nruns 1\n\
+            sig 0000000000000005 count 1 cycle 1 2 3\n\
+            sum signatures 1 ok 0 cycle 1 outside 0\n\
+            work chunks 1 full 1 kept 0 resorted 0 nodes 0\n",
+        ),
+        (
+            tso,
+            STORES_AGAINST_LOADS,
+            "run 2 1\ndone\n",
+            Status::Found,
+            "mtrace 1\nmodel tso\nruns 1\n\
+            sig 0000000000000005 count 1 cycle 1 2 3\n\
+            sum signatures 1 ok 0 cycle 1 outside 0\n\
+            work chunks 1 full 1 kept 0 resorted 0 nodes 0\n",
+        ),
         (
             weak,
             STORES_AGAINST_LOADS,
@@ -275,6 +305,26 @@ fn reports_of_runs(rt: HostRuntime) -> Result<(), Fail> {
             "run 1 2\ndone\n",
             Status::Clean,
             "mtrace 1\nmodel sc\nruns 1\n\
+            sig 0000000000000007 count 1 ok\n\
+            sum signatures 1 ok 1 cycle 0 outside 0\n\
+            work chunks 1 full 1 kept 0 resorted 0 nodes 0\n",
+        ),
+        (
+            tso,
+            STORES_AGAINST_LOADS,
+            "run 1 2\ndone\n",
+            Status::Clean,
+            "mtrace 1\nmodel tso\nruns 1\n\
+            sig 0000000000000007 count 1 ok\n\
+            sum signatures 1 ok 1 cycle 0 outside 0\n\
+            work chunks 1 full 1 kept 0 resorted 0 nodes 0\n",
+        ),
+        (
+            weak,
+            STORES_AGAINST_LOADS,
+            "run 1 2\ndone\n",
+            Status::Clean,
+            "mtrace 1\nmodel weak\nruns 1\n\
             sig 0000000000000007 count 1 ok\n\
             sum signatures 1 ok 1 cycle 0 outside 0\n\
             work chunks 1 full 1 kept 0 resorted 0 nodes 0\n",
@@ -552,6 +602,29 @@ fn refused_inputs(rt: HostRuntime) -> Result<(), Fail> {
             ..CHECK
         };
         check(&rt, rt.alloc(), &call, Status::Input, "", line.as_str())?;
+    }
+    Ok(())
+}
+
+#[test]
+fn too_many_threads_and_operations(rt: HostRuntime) -> Result<(), Fail> {
+    let alloc = rt.alloc();
+    let threads = repeated(alloc, "thread\n", 17, "")?;
+    let many_threads = format!(in alloc; "mtest 1\nwords 1\n{threads}")?;
+    let operations = repeated(alloc, "fence\n", 2049, "")?;
+    let many_operations = format!(in alloc; "mtest 1\nwords 1\nthread\n{operations}")?;
+    let rows = [
+        (many_threads.as_str(), "line 19: TooManyThreads"),
+        (many_operations.as_str(), "line 2052: TooManyOps"),
+    ];
+    for (test, reason) in rows {
+        let line = format!(in alloc; "mtrace: input {reason}\n")?;
+        let call = Call {
+            test,
+            runs: "",
+            ..CHECK
+        };
+        check(&rt, alloc, &call, Status::Input, "", line.as_str())?;
     }
     Ok(())
 }

@@ -1,0 +1,123 @@
+-- Recorded runs have one report: its text, and whether it is clean.
+use Rattle.std.proofs.Common.{◌≡◌, ◌∙◌, ℕ, List, [], ◌∷◌, ◌++◌, Bool, cond, map, length, refl, sym, ap, subst, arith}
+use Rattle.std.specs.Prelude.{count_by, codes, not, ◌&&◌}
+use Rattle.std.specs.Fmt.{decimal}
+use Rattle.std.specs.List.{flat_map, sum_by, zip}
+use Rattle.std.proofs.lemmas.List.Sums.{sum_by-cons}
+use Rattle.orders.proofs.OneCycle.{one_canonical}
+use Rattle.tally.specs.declared.outcome.Outcome.{Outcome}
+use Rattle.tally.proofs.OneTally.{one_tally}
+use Rattle.test_lang.specs.declared.op.MemModel.{MemModel}
+use Rattle.test_lang.specs.Edges.{Edge}
+use Rattle.test_lang.specs.Program.{Program}
+use Rattle.test_lang.specs.Text.Line.{closed}
+use Rattle.test_lang.specs.Text.Numeral.{part}
+use Rattle.signature_plan.specs.Outcomes.{outcome_of}
+use Rattle.verdict_report.specs.declared.report.Judged.{Judged}
+use Rattle.verdict_report.specs.declared.report.Judged.TheVariants.{Ok, Cycle}
+use Rattle.verdict_report.specs.declared.report.Work.{Work}
+use Rattle.verdict_report.specs.Lines.{head_lines, named, signatures, outsides, outside_line, signature_line, verdict_text, is_ok, is_cycle, sum_line, work_line, report_text_of, has_cycle, has_outside}
+use Rattle.verdict_report.specs.Numbers.{signature_text}
+use Rattle.mtrace_app.specs.Input.{IsReported}
+use Rattle.mtrace_app.specs.Report.{AreJudged, IsJudged, IsReport, IsVerdict, work_alone}
+use Rattle.mtrace_app.proofs.OneMeaning.{one_meaning}
+
+-- a report shows the same of both verdicts
+record LookSame (a b : Judged) : Type 0 where
+  text : verdict_text a ≡ verdict_text b
+  kind : is_ok a ≡ is_ok b
+
+abbrev AllLookSame : List Judged → List Judged → Type 0
+AllLookSame [] [] = Unit {0}
+AllLookSame [] (other ∷ others) = ⊥
+AllLookSame (judged ∷ found) [] = ⊥
+AllLookSame (judged ∷ found) (other ∷ others) = LookSame judged other × AllLookSame found others
+
+module _ (model : MemModel) (p : Program) where
+  one_verdict : (run : List ℕ) (a b : Judged) → IsVerdict model p run a → IsVerdict model p run b → LookSame a b
+  one_verdict run Ok Ok h k = record { text = refl; kind = refl }
+  one_verdict run Ok (Cycle nodes) h k = absurd (k.0 h.0 h.1)
+  one_verdict run (Cycle nodes) Ok h k = absurd (h.0 k.0 k.1)
+  one_verdict run (Cycle nodes) (Cycle others) h k = record {
+    text = ap (λ (ns : List ℕ). codes " cycle" ++ flat_map (λ node. part (decimal node)) ns) (one_canonical (Edge model p run) nodes.list others.list h.1 k.1);
+    kind = refl;
+  }
+
+  one_judged : (words : List ℕ) (a b : Judged) → IsJudged model p words a → IsJudged model p words b → LookSame a b
+  one_judged words a b h k = one_verdict h.run a b h.verdict (subst (λ (run : List ℕ). IsVerdict model p run b) (h.one k.run k.means) k.verdict)
+
+  all_judged : (ss : List (List ℕ × ℕ)) (found others : List Judged) → AreJudged model p ss found → AreJudged model p ss others → AllLookSame found others
+  all_judged [] [] [] h k = tt
+  all_judged [] [] (b ∷ others) h k = absurd k
+  all_judged [] (a ∷ found) others h k = absurd h
+  all_judged (s ∷ ss) [] others h k = absurd h
+  all_judged (s ∷ ss) (a ∷ found) [] h k = absurd k
+  all_judged (s ∷ ss) (a ∷ found) (b ∷ others) h k = (one_judged s.0 a b h.0 k.0, all_judged ss found others h.1 k.1)
+
+-- what a report shows of verdicts
+
+same_lines : (ss : List (List ℕ × ℕ)) (found others : List Judged) → AllLookSame found others → map signature_line (zip ss found) ≡ map signature_line (zip ss others)
+same_lines [] found others h = refl
+same_lines (s ∷ ss) [] [] h = refl
+same_lines (s ∷ ss) [] (b ∷ others) h = absurd h
+same_lines (s ∷ ss) (a ∷ found) [] h = absurd h
+same_lines (s ∷ ss) (a ∷ found) (b ∷ others) h =
+    ap (λ (t : List ℕ). (codes "sig " ++ signature_text s.0 ++ named (codes "count") s.1 ++ t) ∷ map signature_line (zip ss found)) h.0.text
+    ∙ ap (λ (ls : List (List ℕ)). signature_line (s, b) ∷ ls) (same_lines ss found others h.1)
+
+same_sum : (f : Judged → ℕ) (a b : Judged) (found others : List Judged) → f a ≡ f b → sum_by f found ≡ sum_by f others → sum_by f (a ∷ found) ≡ sum_by f (b ∷ others)
+same_sum f a b found others here more = let first = sum_by-cons f a found in let second = sum_by-cons f b others in omega (arith, here, more, first, second)
+
+same_oks : (found others : List Judged) → AllLookSame found others → count_by is_ok found ≡ count_by is_ok others
+same_oks [] [] h = refl
+same_oks [] (b ∷ others) h = absurd h
+same_oks (a ∷ found) [] h = absurd h
+same_oks (a ∷ found) (b ∷ others) h =
+    same_sum (λ j. cond (is_ok j) 1 0) a b found others (ap (λ (k : Bool). cond {A = ℕ} k 1 0) h.0.kind) (same_oks found others h.1)
+
+same_cycles : (found others : List Judged) → AllLookSame found others → count_by is_cycle found ≡ count_by is_cycle others
+same_cycles [] [] h = refl
+same_cycles [] (b ∷ others) h = absurd h
+same_cycles (a ∷ found) [] h = absurd h
+same_cycles (a ∷ found) (b ∷ others) h =
+    same_sum (λ j. cond (is_cycle j) 1 0) a b found others (ap (λ (k : Bool). cond {A = ℕ} (not k) 1 0) h.0.kind) (same_cycles found others h.1)
+
+same_any : (found others : List Judged) → AllLookSame found others → has_cycle found ≡ has_cycle others
+same_any [] [] h = refl
+same_any [] (b ∷ others) h = absurd h
+same_any (a ∷ found) [] h = absurd h
+same_any (a ∷ found) (b ∷ others) h = let here = ap not h.0.kind in let more = same_any found others h.1 in cc
+
+module _ (model : MemModel) (runs : ℕ) (tally : List (Outcome × ℕ)) (work : Work) where
+  text_with : List (List ℕ) → ℕ → ℕ → List ℕ
+  text_with lines ok cycle =
+      closed (head_lines model runs ++ (lines ++ map outside_line (outsides tally)) ++ sum_line (length (signatures tally)) ok cycle (length (outsides tally)) ∷ work_line work ∷ [])
+
+  same_text : (found others : List Judged) → AllLookSame found others → report_text_of model runs tally found work ≡ report_text_of model runs tally others work
+  unfolding text_with
+  same_text found others h =
+      let lines = λ (js : List Judged). map signature_line (zip (signatures tally) js) in
+      ap (λ (ls : List (List ℕ)). text_with ls (count_by is_ok found) (count_by is_cycle found)) (same_lines (signatures tally) found others h)
+      ∙ ap (λ (n : ℕ). text_with (lines others) n (count_by is_cycle found)) (same_oks found others h)
+      ∙ ap (λ (n : ℕ). text_with (lines others) (count_by is_ok others) n) (same_cycles found others h)
+
+same_report : (model : MemModel) (p : Program) (chunk : ℕ) (runs : List (List ℕ)) (text other : List ℕ) (is_clean also : Bool) → IsReport model p chunk runs text is_clean → IsReport model p chunk runs other also
+    → (text ≡ other) × (is_clean ≡ also)
+same_report model p chunk runs text other is_clean also h k =
+    let same : h.tally ≡ k.tally = one_tally (map (outcome_of p) runs) h.tally k.tally h.counts k.counts in
+    let judged : AreJudged model p (signatures k.tally) h.found = subst (λ (t : List (Outcome × ℕ)). AreJudged model p (signatures t) h.found) same h.verdicts in
+    let look : AllLookSame h.found k.found = all_judged model p (signatures k.tally) h.found k.found judged k.verdicts in (
+      h.whole ∙ ap (λ (t : List (Outcome × ℕ)). report_text_of model (length runs) t h.found (work_alone (length (signatures t)))) same
+          ∙ same_text model (length runs) k.tally (work_alone (length (signatures k.tally))) h.found k.found look ∙ sym k.whole,
+      h.clean ∙ ap (λ (t : List (Outcome × ℕ)). not (has_cycle h.found) && not (has_outside t)) same
+          ∙ ap (λ (b : Bool). not b && not (has_outside k.tally)) (same_any h.found k.found look) ∙ sym k.clean,
+    )
+
+pub one_report : (model : MemModel) (chunk : ℕ) (bytes text other : List ℕ) (is_clean also : Bool) → IsReported model chunk bytes text is_clean → IsReported model chunk bytes other also
+    → (text ≡ other) × (is_clean ≡ also)
+one_report model chunk bytes text other is_clean also h k =
+    let same = one_meaning bytes k.test h.test k.runs h.runs k.recorded h.recorded in
+    let report =
+    subst (λ (rs : List (List ℕ)). IsReport model h.test chunk rs other also) same.1
+    (subst (λ (q : Program). IsReport model q chunk k.runs other also) same.0 k.report) in
+    same_report model h.test chunk h.runs text other is_clean also h.report report
