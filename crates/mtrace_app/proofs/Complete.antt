@@ -1,5 +1,5 @@
 -- Where no fault comes up, the status of a call is the one that its input has, or want of memory.
-use Rattle.std.proofs.Common.{◌≡◌, ◌≢◌, ◌∙◌, ◌⊎◌, ◌≤◌, ◌^◌, ℕ, List, Bool, true, false, map, length, refl, subst, arith, inl, inr}
+use Rattle.std.proofs.Common.{◌≡◌, ◌≢◌, ◌⊎◌, ◌≤◌, ◌^◌, ℕ, List, Bool, true, false, map, length, refl, subst, arith, inl, inr}
 use Rattle.std.specs.Prelude.{Option, Some, None, IfSome}
 use Rattle.mt_base.specs.Faults.{Rose}
 use Rattle.tally.specs.declared.outcome.Outcome.{Outcome}

@@ -1,5 +1,5 @@
 -- Cycles of a run, and the verdicts that name them.
-use Rattle.std.proofs.Common.{◌≡◌, ◌≢◌, ◌∙◌, ℕ, ◌<◌, ◌≤◌, List, [], ◌∷◌, length, Contains, sym, subst, inl, inr}
+use Rattle.std.proofs.Common.{◌≡◌, ◌∙◌, ℕ, ◌<◌, ◌≤◌, List, [], ◌∷◌, length, Contains, sym, subst, inl, inr}
 use Rattle.orders.specs.Paths.{Linked}
 use Rattle.orders.proofs.Members.{Contains-cons_cases, Contains-nil}
 use Rattle.digraph.specs.Roomed.{Roomed}

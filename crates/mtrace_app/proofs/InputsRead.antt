@@ -1,10 +1,10 @@
 -- What reading an input says of it.
-use Rattle.std.proofs.Common.{◌≡◌, ◌⊎◌, ℕ, ◌+◌, List, length, Ok, Err, refl, sym, ap, subst, inl, inr}
+use Rattle.std.proofs.Common.{◌≡◌, ◌⊎◌, ℕ, ◌+◌, List, length, Ok, Err, refl, sym, subst, inl, inr}
 use Rattle.test_lang.specs.Program.{Program}
 use Rattle.test_lang.specs.Text.Grammar.{StartsWithTest, test_lines}
 use Rattle.run_text.specs.declared.fault.RunFault.{RunFault}
 use Rattle.run_text.specs.declared.fault.RunFault.TheVariants.{BadRunLine, WrongCount, ValueRange, NoDone, AfterDone, Memory}
-use Rattle.run_text.specs.Runs.{reading, runs_text}
+use Rattle.run_text.specs.Runs.{reading}
 use Rattle.run_text.proofs.Runs.{reading_is_meaning}
 use Rattle.mtrace_app.specs.declared.input_fault.InputFault.TheVariants.{Runs}
 use Rattle.mtrace_app.specs.Counted.{IsUnread, IsUnreadBehind, unread_runs}

@@ -1,5 +1,5 @@
 -- Each signature of the tally of runs means one of them.
-use Rattle.std.proofs.Common.{◌≡◌, ℕ, ◌+◌, ◌≤◌, List, [], ◌∷◌, map, Bool, true, false, cond, All, refl, sym, ap, arith}
+use Rattle.std.proofs.Common.{◌≡◌, ℕ, ◌+◌, ◌≤◌, List, [], ◌∷◌, map, Bool, true, false, cond, All, refl, sym, arith}
 use Rattle.std.specs.Prelude.{Option, Some, None, unwrap_or}
 use Rattle.std.specs.List.{AllByRecursion}
 use Rattle.std.specs.Map.{keys_of, values_of, lookup}
@@ -12,8 +12,8 @@ use Rattle.tally.specs.Outcomes.{outcome_eq}
 use Rattle.tally.specs.OutcomeLaws.{outcome_eq_decides}
 use Rattle.tally.specs.Tallies.{IsTally, count_of, occurrences}
 use Rattle.test_lang.specs.Program.{Program}
-use Rattle.test_lang.specs.Runs.{first_outside, outside_of, value_read, IsInside, IsRunOf}
-use Rattle.test_lang.specs.Signatures.{Means, signature}
+use Rattle.test_lang.specs.Runs.{first_outside, outside_of, value_read, IsRunOf}
+use Rattle.test_lang.specs.Signatures.{Means}
 use Rattle.test_lang.specs.Values.{load_count}
 use Rattle.run_text.specs.Runs.{AreRunsOf}
 use Rattle.signature_plan.specs.Outcomes.{outcome_by, outcome_of}

@@ -1,5 +1,5 @@
 -- An input says one thing: one test and one list of runs, or that it is refused.
-use Rattle.std.proofs.Common.{◌≡◌, ◌∙◌, ℕ, List, ◌++◌, Ok, Err, refl, sym, ap, subst}
+use Rattle.std.proofs.Common.{◌≡◌, ◌∙◌, ℕ, List, ◌++◌, Ok, Err, refl, sym, ap}
 use Rattle.std.proofs.lemmas.List.{append_cancel_left}
 use Rattle.test_lang.specs.Program.{Program}
 use Rattle.test_lang.specs.Text.Grammar.{StartsWithTest, test_text}

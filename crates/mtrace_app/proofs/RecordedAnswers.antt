@@ -1,13 +1,12 @@
 -- What is answered to recorded runs, by their number and their tally.
-use Rattle.std.proofs.Common.{◌≡◌, ◌≢◌, ◌∙◌, ◌⊎◌, ℕ, ◌+◌, ◌*◌, ◌<◌, ◌≤◌, List, length, Bool, not, ◌&&◌, ap, subst, arith, inl, inr}
+use Rattle.std.proofs.Common.{◌≡◌, ◌≢◌, ◌∙◌, ℕ, ◌*◌, ◌<◌, ◌≤◌, List, length, Bool, not, ◌&&◌, ap, subst, arith, inl, inr}
 use Rattle.test_lang.specs.declared.op.MemModel.{MemModel}
-use Rattle.test_lang.specs.Program.{Program}
 use Rattle.test_lang.specs.Values.{load_count}
 use Rattle.verdict_report.specs.declared.report.Judged.{Judged}
 use Rattle.verdict_report.specs.Lines.{signatures, report_text_of, has_cycle, has_outside}
 use Rattle.mtrace_app.specs.declared.recorded.Recorded.{Recorded}
 use Rattle.mtrace_app.specs.Counted.{IsCounted}
-use Rattle.mtrace_app.specs.Input.{ArePastLimits, AreWithinLimits, IsReported, IsTooLarge, IsUnbuilt, many_runs, many_values, value_count}
+use Rattle.mtrace_app.specs.Input.{AreWithinLimits, IsReported, IsTooLarge, IsUnbuilt, many_runs, many_values, value_count}
 use Rattle.mtrace_app.specs.Message.{NamesSize, runs_line, values_line}
 use Rattle.mtrace_app.specs.Recorded.{IsRecorded}
 use Rattle.mtrace_app.specs.Report.{AreJudged, IsAlone, work_alone}

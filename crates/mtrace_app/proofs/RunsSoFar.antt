@@ -1,5 +1,5 @@
 -- Reading runs one after another, and counting their outcomes as far as the limits go.
-use Rattle.std.proofs.Common.{◌≡◌, ◌∙◌, ℕ, ◌+◌, ◌≤◌, ◌*◌, List, [], ◌∷◌, ◌++◌, Bool, true, false, map, length, Result, Ok, Err, refl, sym, ap, subst, arith, take, drop, length-append, length-drop, append_assoc}
+use Rattle.std.proofs.Common.{◌≡◌, ◌∙◌, ℕ, ◌+◌, ◌≤◌, List, [], ◌∷◌, ◌++◌, Bool, true, false, map, length, Ok, Err, refl, sym, ap, subst, arith, take, drop, length-append, length-drop}
 use Rattle.std.proofs.lemmas.List.{map-append, length-take}
 use Rattle.tally.specs.declared.outcome.Outcome.{Outcome}
 use Rattle.tally.specs.Counting.{Counting, HasCounted}
@@ -13,7 +13,7 @@ use Rattle.run_text.specs.Runs.{reading, with_run, with_runs, AreRunsOf, IsRunRe
 use Rattle.run_text.proofs.Runs.{with_runs-push}
 use Rattle.signature_plan.specs.Outcomes.{outcome_of}
 use Rattle.mtrace_app.specs.Counted.{IsCounted}
-use Rattle.mtrace_app.specs.Input.{FitLimits, AreWithinLimits}
+use Rattle.mtrace_app.specs.Input.{FitLimits}
 use Rattle.mtrace_app.proofs.Meanings.{tallied_mean}
 
 -- a list that was lent whole has the length of what came back

@@ -9,7 +9,7 @@ use Rattle.test_lang.specs.Text.Refusal.{Means, IsRefused as IsRefusedTest}
 use Rattle.test_lang.proofs.TextLemmas.Readings.{means_reading, reading_means}
 use Rattle.run_text.specs.declared.fault.RunFault.{RunFault}
 use Rattle.run_text.specs.declared.fault.RunFault.TheVariants.{Memory as MemoryOfRuns}
-use Rattle.run_text.specs.Runs.{reading, runs_text, RunsMean, IsRefused}
+use Rattle.run_text.specs.Runs.{reading, RunsMean, IsRefused}
 use Rattle.run_text.proofs.Runs.{reading_is_meaning}
 use Rattle.mtrace_app.specs.declared.input_fault.InputFault.{InputFault}
 use Rattle.mtrace_app.specs.declared.input_fault.InputFault.TheVariants.{Test, Runs}

@@ -1,5 +1,5 @@
 -- What is known of the bytes of a source that was read to its end.
-use Rattle.std.proofs.Common.{◌≡◌, ◌≢◌, ◌≤◌, ◌<◌, ℕ, List, length, Bool, true, false, refl, subst, sym, arith, inl, inr}
+use Rattle.std.proofs.Common.{◌≡◌, ◌≢◌, ℕ, List, true, false, refl, subst, sym, arith, inl, inr}
 use Rattle.std.specs.Prelude.{◌↔◌, Option, Some, None, Ok, IfSome, IsErrOf, string_bytes}
 use Rattle.std.specs.Io.KnownBytes.{IsAtEnd}
 use Rattle.test_lang.specs.declared.op.MemModel.{MemModel}
@@ -8,11 +8,10 @@ use Rattle.mtrace_app.specs.declared.answer.Answer.TheVariants.{Report, Refused,
 use Rattle.mtrace_app.specs.declared.input_fault.InputFault.{InputFault}
 use Rattle.mtrace_app.specs.declared.reading.ReadError.TheVariants.{TooLarge as PastEnd}
 use Rattle.mtrace_app.specs.declared.status.Status.{Status}
-use Rattle.mtrace_app.specs.declared.status.Status.TheVariants.{Clean, Found, Words, Input, ReadFault, WriteFault, Memory, TooLarge, NotBuilt}
+use Rattle.mtrace_app.specs.declared.status.Status.TheVariants.{ReadFault, WriteFault}
 use Rattle.mtrace_app.specs.Answer.{IsAnswer, IsPlain, ReportsInput, line_of_answer, status_of}
 use Rattle.mtrace_app.specs.Causes.{IsCaused, IsOfInput, TellsStatus}
 use Rattle.mtrace_app.specs.Input.{IsReported, IsTooLarge, IsUnbuilt}
-use Rattle.mtrace_app.specs.Message.{IsRefusal}
 use Rattle.mtrace_app.specs.Reading.{IsPastLimit, IsWithinLimit, WhereTold}
 use Rattle.mtrace_app.specs.Recorded.{IsRefusedInput}
 

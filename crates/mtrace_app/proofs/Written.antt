@@ -1,14 +1,14 @@
 -- What a call ends with, by its answer and by what the sink got of it.
 use Rattle.std.proofs.Common.{◌≡◌, ◌≢◌, ◌∙◌, ◌⊎◌, ℕ, List, Bool, true, false, sym, subst, inl, inr}
 use Rattle.std.specs.Prelude.{Option, Some, None, IfSome}
-use Rattle.std.specs.Io.KnownBytes.{IsAtEnd, Keeps}
+use Rattle.std.specs.Io.KnownBytes.{Keeps}
 use Rattle.test_lang.specs.declared.op.MemModel.{MemModel}
 use Rattle.mtrace_app.specs.declared.answer.Answer.{Answer}
 use Rattle.mtrace_app.specs.declared.answer.Answer.TheVariants.{Report, Refused, PastLimits, Ended}
 use Rattle.mtrace_app.specs.declared.status.Status.{Status}
 use Rattle.mtrace_app.specs.declared.status.Status.TheVariants.{Clean, Found, Words, Input, ReadFault, WriteFault, Memory, TooLarge, NotBuilt}
 use Rattle.mtrace_app.specs.Answer.{IsPlain, IsWritten, ReportsInput, line_of_answer, status_of}
-use Rattle.mtrace_app.specs.Causes.{IsCaused, IsOfInput, TellsStatus, Writes}
+use Rattle.mtrace_app.specs.Causes.{IsCaused, TellsStatus, Writes}
 use Rattle.mtrace_app.specs.Input.{IsReported}
 use Rattle.mtrace_app.specs.Reading.{WhereTold}
 use Rattle.mtrace_app.specs.Status.{message}

@@ -1,5 +1,5 @@
 -- What an input is answered, before anything is written.
-use Rattle.std.specs.Prelude.{◌≡◌, ◌⊎◌, ℕ, List, [], Bool, true, false, IfSome, Option, string_bytes, if◌then◌else◌}
+use Rattle.std.specs.Prelude.{◌≡◌, ◌⊎◌, ℕ, List, [], Bool, IfSome, Option, string_bytes, if◌then◌else◌}
 use Rattle.std.specs.Io.KnownBytes.{Appends, Keeps}
 use Rattle.test_lang.specs.declared.op.MemModel.{MemModel}
 use Rattle.mtrace_app.specs.declared.answer.Answer.{Answer}

@@ -12,7 +12,8 @@ use Rattle.mtrace_app.specs.Recorded.{IsRecorded, IsRefusedInput}
 abbrev pub EndsWith : Status → Status → Type 0
 EndsWith status wanted = (status ≡ wanted) ⊎ (status ≡ Memory)
 
--- The answer to bytes that were read without a fault, no more than an input may have. The counts are those of the sink's faults, before the call and now.
+-- The answer to bytes that were read without a fault, no more than an input may have.
+-- The counts are those of the sink's faults, before the call and now.
 pub record IsAnswered (chunk : ℕ) (bytes : List ℕ) (before now : ℕ) (status : Status) : Type 0 where
   -- bytes that are refused
   pub refused : (fault : InputFault) → IsRefusedInput bytes fault → EndsWith status Input

@@ -1,4 +1,4 @@
-use Rattle.std.proofs.Common.{◌≡◌, ℕ, List, ◌∷◌, sym, subst}
+use Rattle.std.proofs.Common.{ℕ, sym, subst}
 use Rattle.std.specs.Prelude.{Option, Some, None, IfNone, IfSome, IsSome}
 use Rattle.orders.specs.Cycles.{IsFirstShortestCycle, IsLeastOnCycle, IsOnCycle}
 use Rattle.digraph.specs.Digraph.{HasEdge}

@@ -1,4 +1,4 @@
-use Rattle.std.proofs.Common.{◌≡◌, List, [], Result, Ok, Err, append-nil, sym}
+use Rattle.std.proofs.Common.{List, [], Result, Ok, Err, append-nil, sym}
 use Rattle.std.specs.Prelude.{ℕ, Option, OnErr, OnOk}
 use Rattle.std.specs.Io.KnownBytes.{Appends}
 use Rattle.mtrace_app.specs.Writing.{AppendsFront}

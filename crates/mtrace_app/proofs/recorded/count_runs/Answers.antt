@@ -1,4 +1,4 @@
-use Rattle.std.proofs.Common.{◌≡◌, ◌∙◌, arith, rules, length, refl, sym, ap, inl, inr}
+use Rattle.std.proofs.Common.{◌∙◌, arith, rules, length, refl, sym, ap, inl, inr}
 use Rattle.std.proofs.lemmas.Result.{err_from_is_err_and}
 use Rattle.run_text.specs.Reader.{Reader}
 use Rattle.mtrace_app.specs.Recorded.{text_behind}

@@ -1,4 +1,4 @@
-use Rattle.std.proofs.Common.{◌≡◌, ◌∙◌, ℕ, List, [], ◌∷◌, ap, refl, sym, subst}
+use Rattle.std.proofs.Common.{◌∙◌, ℕ, List, [], ◌∷◌, ap, refl, sym, subst}
 use Rattle.tally.specs.declared.outcome.Outcome.{Outcome}
 use Rattle.graph_model.specs.StaticGraph.{StaticGraph}
 use Rattle.verdict_report.specs.declared.report.Judged.{Judged}

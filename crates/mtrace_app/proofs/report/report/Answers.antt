@@ -1,4 +1,4 @@
-use Rattle.std.proofs.Common.{◌≡◌, ◌∙◌, ℕ, List, ap, length, subst, rules}
+use Rattle.std.proofs.Common.{◌∙◌, ap, length, subst, rules}
 use Rattle.test_lang.specs.declared.op.MemModel.{MemModel}
 use Rattle.verdict_report.specs.declared.report.Judged.{Judged}
 use Rattle.verdict_report.specs.Lines.{signatures}
