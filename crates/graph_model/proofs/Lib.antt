@@ -17,3 +17,4 @@ pub mod RunGraphs
 pub mod RunVerdicts
 pub mod WordLoads
 pub mod RunSources
+mod FirstLists

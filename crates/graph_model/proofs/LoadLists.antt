@@ -1,11 +1,9 @@
 -- The list of a load's edges, as it is put together.
-use Rattle.std.proofs.Common.{◌≡◌, ℕ, suc, ◌+◌, ◌*◌, ◌<◌, ◌≤◌, List, [], ◌∷◌, ◌++◌, Bool, true, ◌&&◌, length, get_or, arith, refl, sym, ap, subst, ◌∙◌, length-append, append-nil, append_assoc}
+use Rattle.std.proofs.Common.{◌≡◌, ℕ, ◌+◌, ◌≤◌, List, [], ◌++◌, Bool, true, ◌&&◌, length, get_or, arith, refl, sym, ap, subst, ◌∙◌}
 use Rattle.std.specs.Prelude.{Option, Some, None, slice_get, ◌==◌}
 use Rattle.std.specs.Option.{option_map}
 use Rattle.std.specs.List.{flat_map}
 use Rattle.std.proofs.lemmas.Bool.Decides.{nat_tests}
-use Rattle.std.proofs.lemmas.Grind.{flat_map-append}
-use Rattle.std.proofs.lemmas.List.{get_or_default}
 use Rattle.std.proofs.lemmas.Option.{get_or_from_slice_get}
 use Rattle.orders.specs.Orders.{nodes_below}
 use Rattle.orders.proofs.Below.{length-below}
@@ -17,13 +15,13 @@ use Rattle.test_lang.specs.Runs.{value_read, writes_for, IsInside}
 use Rattle.digraph.specs.Roomed.{Roomed}
 use Rattle.graph_model.specs.FewKept.{edge_to}
 use Rattle.graph_model.specs.LoadEdges.{first_store, store_of, edges_to_first_stores, edges_by_store, edges_of_load}
-use Rattle.graph_model.specs.StoreTables.{is_thread_store, first_store_to, HasFirstStores}
+use Rattle.graph_model.specs.StoreTables.{is_thread_store, first_store_to}
 use Rattle.graph_model.proofs.Found.{find-same}
 use Rattle.graph_model.proofs.LaterStores.{value_read-le}
 use Rattle.graph_model.proofs.LoadEdges.{edges_of_initial, edges_of_value, store_of-value}
 use Rattle.graph_model.proofs.Sizes.{length-flat_map_le, length-edge_to}
 
--- the table tells a thread's first store to the word of the load
+-- a thread's first store to the word of a load
 
 store_to_from : (load y : Option (ℕ × Op)) (x t : ℕ) → option_map (λ (node : ℕ × Op). node.1) load ≡ Some (Load x) →
     passes (λ node. (node.0 == t) && is_store_to x node.1) y
@@ -49,37 +47,9 @@ first_store_told p load x t e =
     find-same (is_thread_store p x t) (λ n. writes_for p load n && at_node (λ node. node.0 == t) p n)
     (λ n. store_to_from (slice_get (nodes p) load) (slice_get (nodes p) n) x t e) (op_count p)
 
--- the edges to the first stores so far
+-- how many edges there are to first stores
 
 module _ (p : Program) (load : ℕ) where
-  edges_to_thread : ℕ → List (ℕ × ℕ)
-  edges_to_thread t = edge_to load (first_store p load t)
-
-  pub firsts_step : (n : ℕ) (old h k : Roomed (ℕ × ℕ)) (first : Option ℕ) →
-      h ≡ record old { list = old.list ++ flat_map (λ t. edge_to load (first_store p load t)) (nodes_below n) } → k ≡ record h { list = h.list ++ edge_to load first } →
-      first ≡ first_store p load n → k ≡ record old { list = old.list ++ flat_map (λ t. edge_to load (first_store p load t)) (nodes_below (n + 1)) }
-  firsts_step n old h k first e d same =
-      let f : ℕ → List (ℕ × ℕ) = λ t. edge_to load (first_store p load t) in
-      let next : suc n ≡ n + 1 = omega arith in
-      d
-      ∙ ap (λ (x : Roomed (ℕ × ℕ)). record x { list = x.list ++ edge_to load first }) e
-      ∙ ap (λ (list : List (ℕ × ℕ)). record old { list = list }) (append_assoc old.list (flat_map f (nodes_below n)) (edge_to load first)
-      ∙ ap (λ (o : Option ℕ). old.list ++ (flat_map f (nodes_below n) ++ edge_to load o)) same
-      ∙ ap (λ (more : List (ℕ × ℕ)). old.list ++ (flat_map f (nodes_below n) ++ more)) (sym (append-nil (f n)))
-      ∙ ap (λ (more : List (ℕ × ℕ)). old.list ++ more) (sym (flat_map-append f (nodes_below n) (n ∷ [])))
-      ∙ ap (λ (j : ℕ). old.list ++ flat_map f (nodes_below j)) next)
-
-  pub ticks_step : (n old steps new : ℕ) (first : Option ℕ) → steps ≡ old + length (flat_map (λ t. edge_to load (first_store p load t)) (nodes_below n)) →
-      new ≡ steps + length (edge_to load first) → first ≡ first_store p load n → new ≡ old + length (flat_map (λ t. edge_to load (first_store p load t)) (nodes_below (n + 1)))
-  ticks_step n old steps new first e d same =
-      let f : ℕ → List (ℕ × ℕ) = λ t. edge_to load (first_store p load t) in
-      let next : suc n ≡ n + 1 = omega arith in
-      let more : length (flat_map f (nodes_below (suc n))) ≡ length (flat_map f (nodes_below n)) + length (f n) =
-      ap length (flat_map-append f (nodes_below n) (n ∷ [])) ∙ length-append (flat_map f (nodes_below n)) (f n ++ []) ∙ ap (λ (x : List (ℕ × ℕ)). length (flat_map f (nodes_below n)) + length x) (append-nil (f n)) in
-      let one : length (edge_to load first) ≡ length (f n) = ap (λ (o : Option ℕ). length (edge_to load o)) same in
-      let all : new ≡ old + length (flat_map f (nodes_below (suc n))) = omega (arith, e, d, more, one) in
-      all ∙ ap (λ (j : ℕ). old + length (flat_map f (nodes_below j))) next
-
   length-firsts : (n : ℕ) → length (flat_map (λ t. edge_to load (first_store p load t)) (nodes_below n)) ≤ n
   length-firsts n =
       let each = length-flat_map_le (λ t. edge_to load (first_store p load t)) (nodes_below n) 1 (λ t. length-edge_to load (first_store p load t)) in
@@ -88,15 +58,6 @@ module _ (p : Program) (load : ℕ) where
 
   pub length-edges_to_first_stores : length (edges_to_first_stores p load) ≤ length p.threads
   length-edges_to_first_stores = length-firsts (length p.threads)
-
-  pub firsts_room : (n : ℕ) (old h : Roomed (ℕ × ℕ)) → h ≡ record old { list = old.list ++ flat_map (λ t. edge_to load (first_store p load t)) (nodes_below n) } →
-      length old.list + length p.threads ≤ old.room → n < length p.threads → length h.list < h.room
-  firsts_room n old h e room lt =
-      let few = length-firsts n in
-      let both = length-append old.list (flat_map (λ t. edge_to load (first_store p load t)) (nodes_below n)) in
-      let same : length h.list ≡ length (old.list ++ flat_map (λ t. edge_to load (first_store p load t)) (nodes_below n)) = ap (λ (x : Roomed (ℕ × ℕ)). length x.list) e in
-      let room' : h.room ≡ old.room = ap (λ (x : Roomed (ℕ × ℕ)). x.room) e in
-      omega (arith, few, both, same, room', room, lt)
 
 -- all edges of the load of a rank
 
@@ -122,14 +83,6 @@ module _ (p : Program) (run : List ℕ) (load rank : ℕ) (listed : slice_get (l
   value_few inside h = subst (λ (v : ℕ). v ≤ store_count p) value_is (value_read-le p run load inside h)
 
 -- what the table of first stores tells at a thread
-pub first_told : (p : Program) (table : List (Option ℕ)) (load word t place : ℕ) (read : Option ℕ) → HasFirstStores p table → word < p.words → t < length p.threads →
-    place ≡ word * length p.threads + t → place < p.words * length p.threads → read ≡ get_or table place read → op_at p load ≡ Some (Load word) → read ≡ first_store p load t
-first_told p table load word t place read h in_words in_threads at inside e op =
-    e
-    ∙ get_or_default table place read None (let room = h.room in omega (arith, inside, room))
-    ∙ ap (λ (k : ℕ). get_or table k None) at
-    ∙ h.each word t in_words in_threads
-    ∙ first_store_told p load word t op
 
 -- a list that was emptied and then filled
 pub filled : (old empty new : Roomed (ℕ × ℕ)) (put edges : List (ℕ × ℕ)) → empty ≡ record old { list = [] } → new ≡ record empty { list = empty.list ++ put } → put ≡ edges →

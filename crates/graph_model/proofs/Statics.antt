@@ -8,7 +8,9 @@ use Rattle.test_lang.specs.Program.{Program, op_count}
 use Rattle.digraph.specs.Digraph.{Digraph, HasEdge}
 use Rattle.graph_model.specs.FewKept.{few_kept}
 use Rattle.graph_model.specs.StaticGraph.{IsStaticGraph, Kept}
-use Rattle.graph_model.specs.StoreTables.{HasNextStores, HasFirstStores}
+use Rattle.graph_model.specs.StoreTables.{HasNextStores}
+use Rattle.graph_model.specs.FirstLists.{HasFirstLists}
+use Rattle.graph_model.specs.declared.first_stores.FirstStores.{FirstStores}
 use Rattle.graph_model.specs.declared.word_loads.WordLoads.{WordLoads}
 use Rattle.graph_model.specs.WordLoads.{TellsLoads}
 use Rattle.graph_model.specs.Tabled.{IsTabled}
@@ -28,11 +30,11 @@ static_of m p copy g same nodes edges =
     } in
     subst (λ (q : Program). IsStaticGraph (record { test = q; model = m; graph = g })) (sym same) sound
 
-pub tabled_of : (m : MemModel) (p copy : Program) (g : Digraph) (nexts firsts : List (Option ℕ)) (loads : WordLoads) → copy ≡ p → g.nodes ≡ op_count p → g.edges ≡ few_kept m p →
-    HasNextStores p nexts → HasFirstStores p firsts → TellsLoads p loads → IsTabled (record { test = copy; model = m; graph = g }) nexts firsts loads
+pub tabled_of : (m : MemModel) (p copy : Program) (g : Digraph) (nexts : List (Option ℕ)) (firsts : FirstStores) (loads : WordLoads) → copy ≡ p → g.nodes ≡ op_count p → g.edges ≡ few_kept m p →
+    HasNextStores p nexts → HasFirstLists p firsts.starts.items firsts.stores.items → TellsLoads p loads → IsTabled (record { test = copy; model = m; graph = g }) nexts firsts loads
 tabled_of m p copy g nexts firsts loads same nodes edges n f l = record {
   sound = static_of m p copy g same nodes edges;
   nexts = subst (λ (q : Program). HasNextStores q nexts) (sym same) n;
-  firsts = subst (λ (q : Program). HasFirstStores q firsts) (sym same) f;
+  firsts = subst (λ (q : Program). HasFirstLists q firsts.starts.items firsts.stores.items) (sym same) f;
   loads = subst (λ (q : Program). TellsLoads q loads) (sym same) l;
 }

@@ -5,6 +5,7 @@ pub mod NearestNodes
 pub mod WordLoads
 pub mod LoadEdges
 pub mod StoreTables
+pub mod FirstLists
 pub mod StaticGraph
 pub mod Tabled
 pub mod RunGraph

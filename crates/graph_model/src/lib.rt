@@ -2,6 +2,7 @@
 #![tactic(auto)]
 
 mod few_kept;
+mod first_stores;
 mod kept_order;
 mod kinds;
 mod nearest;

@@ -4,7 +4,8 @@ ghost use Rattle.test_lang.specs.Values.{load_count};
 ghost use Rattle.graph_model.specs.StaticGraph.{IsStaticGraph};
 
 use crate::few_kept::kept_graph;
-use crate::store_tables::{first_stores, next_stores};
+use crate::first_stores::FirstStores;
+use crate::store_tables::next_stores;
 use crate::word_loads::WordLoads;
 use digraph::Graph;
 use std::alloc::{AllocError, Global};
@@ -30,22 +31,21 @@ pub struct Static {
     graph: Graph,
     /// For each node, the first store after it in its thread to its word.
     next_stores: Vec<Option<u32>>,
-    /// For each word and each thread, the thread's first store to the word.
-    first_stores: Vec<Option<u32>>,
+    first_stores: FirstStores,
     loads: WordLoads,
 }
 
 impl Model for Static {
     ghost use Rattle.std.specs.Prelude.{ℕ};
     ghost use Rattle.graph_model.specs.StaticGraph.{StaticGraph, IsStaticGraph};
-    ghost use Rattle.graph_model.specs.StoreTables.{HasFirstStores, HasNextStores};
+    ghost use Rattle.graph_model.specs.StoreTables.{HasNextStores};
     ghost use Rattle.graph_model.specs.Tabled.{IsTabled};
 
     ghost Value = { StaticGraph };
 
     ghost view = { λ s. record { test = s.test; model = s.model; graph = s.graph } };
 
-    ghost invariant = { λ s. IsTabled (record { test = s.test; model = s.model; graph = s.graph }) s.next_stores.items s.first_stores.items s.loads };
+    ghost invariant = { λ s. IsTabled (record { test = s.test; model = s.model; graph = s.graph }) s.next_stores.items s.first_stores s.loads };
 }
 
 impl Static {
@@ -60,7 +60,7 @@ impl Static {
             model,
             graph: kept_graph(alloc, test, model)?,
             next_stores: next_stores(alloc, test)?,
-            first_stores: first_stores(alloc, test)?,
+            first_stores: FirstStores::of(alloc, test)?,
             loads: WordLoads::of(alloc, test)?,
         })
     }

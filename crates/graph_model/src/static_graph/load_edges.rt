@@ -7,7 +7,6 @@ ghost use Rattle.graph_model.specs.FewKept.{edge_to};
 ghost use Rattle.graph_model.specs.LoadEdges.{edges_by_store, edges_of_load, edges_to_first_stores};
 
 use crate::static_graph::Static;
-use crate::store_tables::place_of;
 use digraph::{Edges, Steps};
 use std::sync::ledger::Ledger;
 use test_lang::op::Op;
@@ -45,10 +44,11 @@ impl Static {
         ensures put { out.new ≡ record out.old { list = out.old.list ++ edges_to_first_stores self.now.test load } }
         ensures ticks { steps.new ≡ steps.old + length (edges_to_first_stores self.now.test load) }
     {
-        let word = word_of(&self.test, load);
-        for thread in 0..self.test.threads() {
-            let first = self.first_stores[place_of(&self.test, word, thread)];
-            put(out, steps, load, first);
+        let word = word_of(&self.test, load) as usize;
+        let starts = &self.first_stores.starts;
+        let (start, end) = (starts[word] as usize, starts[word + 1] as usize);
+        for store in &self.first_stores.stores[start..end] {
+            put(out, steps, load, Some(*store));
         }
     }
 
