@@ -52,6 +52,7 @@ fn take_sources<L: Ledger>(
     ensures front { take count queue.new ≡ take count queue.old }
     ensures given { GivesNumber (λ t. HasEdge graph.now.edges t node) number numbers.old numbers.new }
     ensures taken { (t : ℕ) → HasEdge graph.now.edges t node → slice_index numbers.new t ≢ 0 }
+    ensures later { steps.old ≤ steps.new }
 {
     let mut taken = count;
     let mut next = graph.first_in(node, steps);
@@ -76,7 +77,8 @@ fn number_sources<L: Ledger>(
     requires queue { length queue.old ≡ graph.now.nodes }
     requires free { slice_index numbers.old root ≡ 0 }
     requires fresh { (t : ℕ) → slice_index numbers.old t ≢ root + 1 }
-    ensures { NumbersSources (HasEdge graph.now.edges) root (root + 1) numbers.old numbers.new }
+    ensures numbered { NumbersSources (HasEdge graph.now.edges) root (root + 1) numbers.old numbers.new }
+    ensures later { steps.old ≤ steps.new }
 {
     let _nodes = graph.nodes();
     let number = root + 1;
@@ -102,7 +104,8 @@ pub fn number_components<L: Ledger>(
     requires numbers { length numbers.old ≡ graph.now.nodes }
     requires queue { length queue.old ≡ graph.now.nodes }
     requires clear { (t : ℕ) → slice_index numbers.old t ≡ 0 }
-    ensures { NumbersComponents (HasEdge graph.now.edges) graph.now.nodes numbers.new }
+    ensures numbered { NumbersComponents (HasEdge graph.now.edges) graph.now.nodes numbers.new }
+    ensures later { steps.old ≤ steps.new }
 {
     let _edges = graph.edges();
     for place in (0..order.len()).rev() {

@@ -1,5 +1,5 @@
 //! The least node on a cycle, by the numbers of components.
-ghost use Rattle.std.specs.Prelude.{◌≡◌, ◌↔◌, ℕ, ◌<◌, length, IsTrue, IfSome, IfNone};
+ghost use Rattle.std.specs.Prelude.{◌≡◌, ◌↔◌, ℕ, ◌<◌, ◌≤◌, length, IsTrue, IfSome, IfNone};
 ghost use Rattle.digraph.specs.Digraph.{HasEdge};
 ghost use Rattle.orders.specs.Paths.{Reach};
 ghost use Rattle.full_sort.specs.Components.{LeadsWithin, NumbersComponents};
@@ -11,7 +11,8 @@ use std::sync::ledger::Ledger;
 fn leads_within<L: Ledger>(graph: &Graph, node: u32, numbers: &[u32], steps: &mut Steps<L>) -> bool
     requires node { node < graph.now.nodes }
     requires numbers { length numbers.now ≡ graph.now.nodes }
-    ensures { IsTrue result ↔ LeadsWithin (HasEdge graph.now.edges) numbers.now node }
+    ensures within { IsTrue result ↔ LeadsWithin (HasEdge graph.now.edges) numbers.now node }
+    ensures later { steps.old ≤ steps.new }
 {
     let mut next = graph.first_out(node, steps);
     while let Some(edge) = next {
@@ -34,6 +35,7 @@ pub fn least_reaching_itself<L: Ledger>(
     ensures some { IfSome result (λ node. Reach (HasEdge graph.now.edges) node node) }
     ensures least { IfSome result (λ node. (t : ℕ) → t < node → ¬ Reach (HasEdge graph.now.edges) t t) }
     ensures none { IfNone result ((t : ℕ) → t < graph.now.nodes → ¬ Reach (HasEdge graph.now.edges) t t) }
+    ensures later { steps.old ≤ steps.new }
 {
     for node in 0..graph.nodes() {
         if leads_within(graph, node, numbers, steps) {

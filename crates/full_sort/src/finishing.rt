@@ -25,6 +25,7 @@ fn next_unmarked<L: Ledger>(
     ensures inside { IfSome result (λ t. t < graph.now.nodes) }
     ensures seen { IfSome result (λ t. HasSeen graph.now.edges (slice_set marks.now t true) node seen.new) }
     ensures none { IfNone result ((t : ℕ) → HasEdge graph.now.edges node t → is_marked marks.now t ≡ true) }
+    ensures later { steps.old ≤ steps.new }
 {
     let mut next = match seen.checked_sub(1) {
         None => graph.first_out(node, steps),
@@ -80,6 +81,7 @@ fn finish_from<L: Ledger>(
     ensures search { IsSearchAt graph.now.edges marks.new seen.new order.new result (length order.new) }
     ensures root { is_marked marks.new root ≡ true }
     ensures kept { (t : ℕ) → is_marked marks.old t ≡ true → is_marked marks.new t ≡ true }
+    ensures later { steps.old ≤ steps.new }
 {
     let _edges = graph.edges();
     let mut done = finished;
@@ -112,6 +114,7 @@ pub fn finishing_order<L: Ledger>(
     requires clear { (t : ℕ) → is_marked marks.old t ≡ false }
     ensures order { IsFinishingOrder (HasEdge graph.now.edges) graph.now.nodes order.new }
     ensures clear { (t : ℕ) → is_marked marks.new t ≡ false }
+    ensures later { steps.old ≤ steps.new }
 {
     let mut done = 0;
     for root in 0..graph.nodes() {

@@ -146,6 +146,7 @@ pub fn least_on_cycle<L: Ledger>(
     ensures least { IfSome result (IsLeastOnCycle (HasEdge graph.now.edges)) }
     ensures none { IfNone result ((node : ℕ) → ¬ IsOnCycle (HasEdge graph.now.edges) node) }
     ensures room { scratch.new ≡ scratch.old }
+    ensures later { steps.old ≤ steps.new }
 {
     let _edges = graph.edges();
     finishing_order(

@@ -26,7 +26,7 @@ fn main(rt: HostRuntime) -> ExitCode {
         &mut WriterSink::new(rt.stderr()),
         &OpenGate,
     );
-    ExitCode::from(status as u8)
+    ExitCode::from(status.exit_number())
 }
 
 #[cfg(test)]

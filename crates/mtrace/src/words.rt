@@ -21,7 +21,7 @@ pub fn refusal(error: &io::Error) -> u8
     ensures other { error_kind error.now ≢ ErrorKind.OutOfMemory → result ≡ 10 }
 {
     match error.kind() {
-        ErrorKind::OutOfMemory => Status::Memory as u8,
+        ErrorKind::OutOfMemory => Status::Memory.exit_number(),
         _ => REFUSED,
     }
 }

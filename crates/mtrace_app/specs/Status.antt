@@ -3,6 +3,18 @@ use Rattle.std.specs.Prelude.{ℕ, List, [], ◌∷◌, ◌++◌, codes}
 use Rattle.mtrace_app.specs.declared.status.Status.{Status}
 use Rattle.mtrace_app.specs.declared.status.Status.TheVariants.{Clean, Found, Words, Input, ReadFault, WriteFault, Memory, TooLarge, NotBuilt}
 
+-- the number that the program ends with as exit status
+abbrev pub exit_number : Status → ℕ
+exit_number Clean = 0
+exit_number Found = 1
+exit_number Words = 2
+exit_number Input = 3
+exit_number ReadFault = 4
+exit_number WriteFault = 5
+exit_number Memory = 6
+exit_number TooLarge = 7
+exit_number NotBuilt = 8
+
 -- a text as a line: a line feed closes it
 abbrev pub line_of : List ℕ → List ℕ
 line_of text = text ++ 10 ∷ []

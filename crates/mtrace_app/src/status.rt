@@ -1,6 +1,6 @@
 //! The status that a call ends with, and the line that tells it.
 ghost use Rattle.std.specs.Prelude.{◌≡◌};
-ghost use Rattle.mtrace_app.specs.Status.{message};
+ghost use Rattle.mtrace_app.specs.Status.{exit_number, message};
 
 /// How a call ended. The program ends with its number as exit status.
 #[derive(Clone, Copy, Debug, PartialEq, Eq)]
@@ -23,6 +23,15 @@ pub enum Status {
     TooLarge = 7,
     /// The words or the input are of a form that isn't built yet.
     NotBuilt = 8,
+}
+
+impl Status {
+    /// The number that the program ends with as exit status.
+    pub fn exit_number(self) -> u8
+        ensures { result ≡ exit_number self }
+    {
+        self as u8
+    }
 }
 
 /// The line that is put to the errors with a status; empty where there is none.

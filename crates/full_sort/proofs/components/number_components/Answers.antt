@@ -27,7 +27,7 @@ number_sources-requires-clause-fresh g c =
     let l = c.loop-place in
     let some = c.loop-place-test.true in
     let at : l.place ≡ l.place - 1 + 1 = omega (arith, some) in
-    number_fresh E c.args.order.now l.numbers (l.place - 1) (subst (IsNumberedFrom E c.args.order.now l.numbers) at l.invariant) c.if-numbers-root-eq0.true
+    number_fresh E c.args.order.now l.numbers (l.place - 1) (subst (IsNumberedFrom E c.args.order.now l.numbers) at l.invariant.numbered) c.if-numbers-root-eq0.true
 
 pub loop-place-preserved-then-numbers-root-eq0 : goal.loop-place-preserved-then-numbers-root-eq0
 loop-place-preserved-then-numbers-root-eq0 g c =
@@ -36,8 +36,13 @@ loop-place-preserved-then-numbers-root-eq0 g c =
     let few = l.auto.place in
     let some = c.loop-place-test.true in
     let at : l.place ≡ l.place - 1 + 1 = omega (arith, some) in
-    numbered_on (HasEdge es) c.args.order.now l.numbers (l.place - 1) (subst (IsNumberedFrom (HasEdge es) c.args.order.now l.numbers) at l.invariant) c.if-numbers-root-eq0.true c.args.graph.now.nodes
-    (edges_inside es c.args.graph.now.nodes c.edges-edges.ensures.sound.ends) c.requires.order (omega (arith, few, some)) c.number_sources.new.numbers c.number_sources.ensures
+    let before = l.invariant.later in
+    let more = c.number_sources.ensures.later in
+    record {
+      numbered = numbered_on (HasEdge es) c.args.order.now l.numbers (l.place - 1) (subst (IsNumberedFrom (HasEdge es) c.args.order.now l.numbers) at l.invariant.numbered) c.if-numbers-root-eq0.true c.args.graph.now.nodes
+          (edges_inside es c.args.graph.now.nodes c.edges-edges.ensures.sound.ends) c.requires.order (omega (arith, few, some)) c.number_sources.new.numbers c.number_sources.ensures.numbered;
+      later = omega (arith, before, more);
+    }
 
 pub loop-place-preserved : goal.loop-place-preserved
 loop-place-preserved g c =
@@ -45,11 +50,14 @@ loop-place-preserved g c =
     let l = c.loop-place in
     let some = c.loop-place-test.true in
     let at : l.place ≡ l.place - 1 + 1 = omega (arith, some) in
-    numbered_already E c.args.order.now l.numbers (l.place - 1) c.if-numbers-root-eq0.false (subst (IsNumberedFrom E c.args.order.now l.numbers) at l.invariant)
+    record {
+      numbered = numbered_already E c.args.order.now l.numbers (l.place - 1) c.if-numbers-root-eq0.false (subst (IsNumberedFrom E c.args.order.now l.numbers) at l.invariant.numbered);
+      later = l.invariant.later;
+    }
 
-pub returns : goal.returns
-returns g c =
+pub returns-clause-numbered : goal.returns-clause-numbered
+returns-clause-numbered g c =
     let E = HasEdge c.args.graph.now.edges in
     let l = c.loop-place in
     let end = c.loop-place-test.false in
-    all_numbered E c.args.graph.now.nodes c.args.order.now l.numbers c.requires.order (subst (IsNumberedFrom E c.args.order.now l.numbers) (omega (arith, end)) l.invariant)
+    all_numbered E c.args.graph.now.nodes c.args.order.now l.numbers c.requires.order (subst (IsNumberedFrom E c.args.order.now l.numbers) (omega (arith, end)) l.invariant.numbered)

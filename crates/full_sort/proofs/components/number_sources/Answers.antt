@@ -7,7 +7,7 @@ pub take_sources-count-requires-clause-node : goal.take_sources-count-requires-c
 take_sources-count-requires-clause-node g c =
     let l = c.loop-done in
     let root = c.args.root in
-    let has = next_listed (HasEdge c.args.graph.now.edges) root (root + 1) c.args.numbers.now (omega arith) c.requires.fresh l.numbers l.queue l.count l.done l.invariant c.loop-done-test.true in
+    let has = next_listed (HasEdge c.args.graph.now.edges) root (root + 1) c.args.numbers.now (omega arith) c.requires.fresh l.numbers l.queue l.count l.done l.invariant.taking c.loop-done-test.true in
     let below = number_below l.numbers (root + 1) (get_or l.queue l.done 0) (omega arith) has in
     let size = l.auto.numbers in
     let nodes = c.requires.numbers in
@@ -18,10 +18,15 @@ loop-done-preserved g c =
     let l = c.loop-done in
     let root = c.args.root in
     let n = c.take_sources-count.ensures in
-    taking_on (HasEdge c.args.graph.now.edges) root (root + 1) c.args.numbers.now (omega arith) c.requires.fresh l.numbers l.queue l.count l.done l.invariant c.take_sources-count.new.numbers
-    c.take_sources-count.new.queue c.take_sources-count.result c.loop-done-test.true n.listed n.few n.more n.front n.given n.taken
+    let before = l.invariant.later in
+    let more = n.later in
+    record {
+      taking = taking_on (HasEdge c.args.graph.now.edges) root (root + 1) c.args.numbers.now (omega arith) c.requires.fresh l.numbers l.queue l.count l.done l.invariant.taking c.take_sources-count.new.numbers
+          c.take_sources-count.new.queue c.take_sources-count.result c.loop-done-test.true n.listed n.few n.more n.front n.given n.taken;
+      later = omega (arith, before, more);
+    }
 
-pub returns : goal.returns
-returns g c =
+pub returns-clause-numbered : goal.returns-clause-numbered
+returns-clause-numbered g c =
     let l = c.loop-done in
-    all_taken (HasEdge c.args.graph.now.edges) c.args.root (c.args.root + 1) c.args.numbers.now (omega arith) c.requires.fresh l.numbers l.queue l.count l.done l.invariant c.loop-done-test.false
+    all_taken (HasEdge c.args.graph.now.edges) c.args.root (c.args.root + 1) c.args.numbers.now (omega arith) c.requires.fresh l.numbers l.queue l.count l.done l.invariant.taking c.loop-done-test.false

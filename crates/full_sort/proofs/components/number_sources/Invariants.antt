@@ -1,10 +1,13 @@
-use Rattle.std.proofs.Common.{◌-◌, length}
+use Rattle.std.proofs.Common.{◌-◌, ◌≤◌, length}
 use Rattle.digraph.specs.Digraph.{HasEdge}
 use Rattle.full_sort.proofs.Numbering.{IsTaking}
 use Rattle.full_sort.proofs.components.number_sources.Given as goal
 
 abbrev pub invariant-loop-done : goal.invariant-loop-done
-invariant-loop-done g l = IsTaking (HasEdge l.graph.edges) l.root l.number l.fn.numbers l.numbers l.queue l.count l.done
+invariant-loop-done g l = record {
+  taking : IsTaking (HasEdge l.graph.edges) l.root l.number l.fn.numbers l.numbers l.queue l.count l.done;
+  later : l.fn.steps ≤ l.steps;
+}
 
 abbrev pub decreases-loop-done : goal.decreases-loop-done
 decreases-loop-done g l = length l.initial.queue - l.done

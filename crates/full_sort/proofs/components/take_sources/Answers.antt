@@ -16,6 +16,8 @@ loop-next-preserved g c =
     let new = c.take_node-taken.new.numbers in
     let Taken : ℕ → Type 0 = λ e. get_or new (source_of es e) 0 ≢ 0 in
     let more = i.more in
+    let before = i.later in
+    let ticks = c.next_in-next.ensures.ticks in
     let grown = n.more in
     let source : c.source.result ≡ source_of es edge = c.source.ensures.value in
     let walk = walk_kept (target_of es) node (length es) (λ (e : ℕ). get_or old (source_of es e) 0 ≢ 0) Taken c.loop-next.next
@@ -32,6 +34,7 @@ loop-next-preserved g c =
           ∙ take-take c.args.count c.loop-next.taken c.loop-next.queue more ∙ i.front;
       given = gives_more (λ (t : ℕ). HasEdge es t node) (λ (t : ℕ). t ≡ c.source.result) c.args.number c.args.numbers.now old new i.given
           (λ t none same. subst (λ (s : ℕ). HasEdge es s node) (sym (same ∙ source)) (subst (HasEdge es (source_of es edge)) here.1 (edge_at es edge here.0))) n.given;
+      later = omega (arith, before, ticks);
     }
 
 pub returns-clause-taken : goal.returns-clause-taken

@@ -14,6 +14,7 @@ invariant-loop-next g l = record {
   more : l.count ≤ l.taken;
   front : take l.count l.queue ≡ take l.count l.fn.queue;
   given : GivesNumber (λ (t : ℕ). HasEdge l.graph.edges t l.node) l.number l.fn.numbers l.numbers;
+  later : l.fn.steps ≤ l.steps;
 }
 
 abbrev pub decreases-loop-next : goal.decreases-loop-next

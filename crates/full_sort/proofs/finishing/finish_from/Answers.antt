@@ -20,6 +20,7 @@ loop-top-init g c =
           (λ below. absurd (omega (arith, below))) (omega (arith, place, n, p)) (λ i low high. absurd (omega (arith, low, high)));
       root = subst (λ (xs : List Bool). is_marked xs c.args.root ≡ true) (sym e.marks) (get_or-set_same c.args.marks.now c.args.root true false inside);
       kept = λ t h. subst (λ (xs : List Bool). is_marked xs t ≡ true) (sym e.marks) (marked_kept c.args.marks.now c.args.root t h);
+      later = omega arith;
     }
 
 pub next_unmarked-requires-clause-node : goal.next_unmarked-requires-clause-node
@@ -50,6 +51,8 @@ loop-top-preserved-in-Some g c =
     let l = c.loop-top in
     let e = c.enter-top-in-Some.ensures in
     let node : ℕ = c.in-Some.node in
+    let before = l.invariant.later in
+    let more = c.next_unmarked.ensures.later in
     let below = c.in-Some.ensures.inside in
     let place = e.place in
     let looked = looked_on es l.marks l.seen l.order l.done l.top l.invariant.search node c.next_unmarked.new.seen (omega arith) c.in-Some.ensures.seen in
@@ -59,13 +62,17 @@ loop-top-preserved-in-Some g c =
           (λ _. c.in-Some.ensures.edge) (omega (arith, place, length-set l.seen l.top c.next_unmarked.new.seen)) looked;
       root = subst (λ (xs : List Bool). is_marked xs c.args.root ≡ true) (sym e.marks) (marked_kept l.marks node c.args.root l.invariant.root);
       kept = λ t h. subst (λ (xs : List Bool). is_marked xs t ≡ true) (sym e.marks) (marked_kept l.marks node t (l.invariant.kept t h));
+      later = omega (arith, before, more);
     }
 
 pub loop-top-preserved : goal.loop-top-preserved
 loop-top-preserved g c =
     let l = c.loop-top in
+    let before = l.invariant.later in
+    let more = c.next_unmarked.ensures.later in
     record {
       search = at_shrunk c.args.graph.now.edges l.marks l.seen l.order l.done l.top l.invariant.search c.next_unmarked.new.seen c.loop-top-test.true c.in-None.ensures.none;
       root = l.invariant.root;
       kept = l.invariant.kept;
+      later = omega (arith, before, more);
     }

@@ -8,6 +8,7 @@ pub loop-root-init : goal.loop-root-init
 loop-root-init g c = record {
   search = at_begun c.args.graph.now.edges c.args.marks.now c.args.seen.now c.args.order.now c.requires.clear;
   found = λ t lt. absurd (omega (arith, lt));
+  later = omega arith;
 }
 
 pub returns-clause-order : goal.returns-clause-order
