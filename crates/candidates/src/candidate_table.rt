@@ -81,10 +81,12 @@ impl Candidates {
     /// The place of a value among the candidates.
     pub fn index(&self, rank: u32, value: u32) -> Option<u32>
         requires { rank < load_count self.now }
-        ensures found { (place : ℕ) → (result ≡ Some place) ↔ (slice_get (candidates_at self.now rank) place ≡ Some value) }
+        ensures found { (place : ℕ) → (result ≡ Some place)
+            ↔ (slice_get (candidates_at self.now rank) place ≡ Some value) }
         ensures none { IsNone result ↔ (Contains (candidates_at self.now rank) value → ⊥) }
         // The same as a search.
-        ensures position { result ≡ position (λ candidate. candidate == value) (candidates_at self.now rank) }
+        ensures position { result
+            ≡ position (λ candidate. candidate == value) (candidates_at self.now rank) }
     {
         let store = self.stores.row(value)?;
         self.loads[rank as usize].find(value, store)
@@ -94,7 +96,8 @@ impl Candidates {
     pub fn place(&self, rank: u32, value: u32) -> u32
         requires rank { rank < load_count self.now }
         requires candidate { Contains (candidates_at self.now rank) value }
-        ensures { position (λ candidate. candidate == value) (candidates_at self.now rank) ≡ Some result }
+        ensures { position (λ candidate. candidate == value) (candidates_at self.now rank)
+            ≡ Some result }
     {
         let store = self.stores.rows[value as usize];
         self.loads[rank as usize].place(value, store)

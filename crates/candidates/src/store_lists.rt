@@ -27,7 +27,8 @@ pub(crate) struct StoreLists {
 impl StoreLists {
     /// No store of so many words.
     fn new(alloc: Global, words: u32) -> Result<StoreLists, AllocError>
-        ensures rows { IfOk result (λ stores. stores.rows.items ≡ record { word = words; place = 0 } ∷ []) }
+        ensures rows { IfOk result (λ stores. stores.rows.items
+            ≡ record { word = words; place = 0 } ∷ []) }
         ensures words { IfOk result (λ stores. length stores.lists.items ≡ words) }
         ensures lists { IfOk result (λ stores. All (λ list. list.items ≡ []) stores.lists.items) }
     {
@@ -56,7 +57,8 @@ impl StoreLists {
         requires room { length (slice_index_or (map (λ list. list.items) self.old.lists.items) word []) < 2 ^ 32 }
         ensures row { OnOk result (self.new.rows.items ≡ self.old.rows.items
             ++ record { word = word; place = length (slice_index_or (map (λ list. list.items) self.old.lists.items) word []) } ∷ []) }
-        ensures list { OnOk result (map (λ list. list.items) self.new.lists.items ≡ slice_set (map (λ list. list.items) self.old.lists.items) word
+        ensures list { OnOk result (map (λ list. list.items) self.new.lists.items
+            ≡ slice_set (map (λ list. list.items) self.old.lists.items) word
             (slice_index_or (map (λ list. list.items) self.old.lists.items) word [] ++ value ∷ [])) }
     {
         let list = &mut self.lists[word as usize];

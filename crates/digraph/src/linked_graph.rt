@@ -82,7 +82,8 @@ impl Graph {
     /// Takes the last added edge away.
     fn pop(&mut self)
         requires { 0 < length self.old.edges }
-        ensures { let count = length self.old.edges in self.new ≡ record self.old { edges = take (count - 1) self.old.edges } }
+        ensures { let count = length self.old.edges in self.new
+            ≡ record self.old { edges = take (count - 1) self.old.edges } }
     {
         let nodes = self.nodes();
         let from = self.sources.pop();
@@ -148,7 +149,8 @@ impl Graph {
     /// How many edges lead to each node.
     pub fn in_degrees(&self) -> &[u32]
         ensures long { length result.now ≡ self.now.nodes }
-        ensures at { (node : ℕ) → node < self.now.nodes → slice_index result.now node ≡ in_degree self.now.edges node }
+        ensures at { (node : ℕ) → node < self.now.nodes →
+            slice_index result.now node ≡ in_degree self.now.edges node }
     {
         &self.in_degrees
     }
@@ -158,7 +160,8 @@ impl Graph {
     pub fn near_targets<L: Ledger>(&self, node: u32, steps: &mut Steps<L>) -> &[u32]
         requires { node < self.now.nodes }
         ensures long { length result.now ≡ 3 }
-        ensures at { (k : ℕ) → k < 3 → slice_index result.now k ≡ slice_index_or (targets_from self.now.edges node) k self.now.nodes }
+        ensures at { (k : ℕ) → k < 3 → slice_index result.now k
+            ≡ slice_index_or (targets_from self.now.edges node) k self.now.nodes }
         ensures ticks { steps.new ≡ steps.old + min (out_degree self.now.edges node) 3 }
     {
         let place = near_place(node, 0);

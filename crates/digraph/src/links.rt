@@ -83,8 +83,10 @@ impl Links {
     /// Takes the last key away.
     pub fn pop(&mut self) -> u32
         requires { 0 < length self.old.keys }
-        ensures taken { let count = length self.old.keys in self.new ≡ record self.old { keys = take (count - 1) self.old.keys } }
-        ensures key { let count = length self.old.keys in result ≡ slice_index self.old.keys (count - 1) }
+        ensures taken { let count = length self.old.keys in self.new
+            ≡ record self.old { keys = take (count - 1) self.old.keys } }
+        ensures key { let count = length self.old.keys in result
+            ≡ slice_index self.old.keys (count - 1) }
         ensures inside { result < self.old.kinds }
         ensures sound { IsKeyList self.new }
     {

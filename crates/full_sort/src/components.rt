@@ -80,6 +80,7 @@ fn number_sources<L: Ledger>(
     ensures numbered { NumbersSources (HasEdge graph.now.edges) root (root + 1) numbers.old numbers.new }
     ensures later { steps.old ≤ steps.new }
 {
+    // The prover is told how many nodes there may be.
     let _nodes = graph.nodes();
     let number = root + 1;
     let mut count = take_node(root, number, numbers, queue, 0);
@@ -107,6 +108,7 @@ pub fn number_components<L: Ledger>(
     ensures numbered { NumbersComponents (HasEdge graph.now.edges) graph.now.nodes numbers.new }
     ensures later { steps.old ≤ steps.new }
 {
+    // The prover is told that the ends of all edges are nodes, and how many there may be.
     let _edges = graph.edges();
     for place in (0..order.len()).rev() {
         let root = order[place];

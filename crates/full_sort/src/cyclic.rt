@@ -33,8 +33,10 @@ pub fn least_reaching_itself<L: Ledger>(
     requires numbers { length numbers.now ≡ graph.now.nodes }
     requires components { NumbersComponents (HasEdge graph.now.edges) graph.now.nodes numbers.now }
     ensures some { IfSome result (λ node. Reach (HasEdge graph.now.edges) node node) }
-    ensures least { IfSome result (λ node. (t : ℕ) → t < node → ¬ Reach (HasEdge graph.now.edges) t t) }
-    ensures none { IfNone result ((t : ℕ) → t < graph.now.nodes → ¬ Reach (HasEdge graph.now.edges) t t) }
+    ensures least { IfSome result (λ node. (t : ℕ) → t < node →
+        ¬ Reach (HasEdge graph.now.edges) t t) }
+    ensures none { IfNone result ((t : ℕ) → t < graph.now.nodes →
+        ¬ Reach (HasEdge graph.now.edges) t t) }
     ensures later { steps.old ≤ steps.new }
 {
     for node in 0..graph.nodes() {

@@ -24,7 +24,8 @@ fn next_unmarked<L: Ledger>(
     ensures unmarked { IfSome result (λ t. is_marked marks.now t ≡ false) }
     ensures inside { IfSome result (λ t. t < graph.now.nodes) }
     ensures seen { IfSome result (λ t. HasSeen graph.now.edges (slice_set marks.now t true) node seen.new) }
-    ensures none { IfNone result ((t : ℕ) → HasEdge graph.now.edges node t → is_marked marks.now t ≡ true) }
+    ensures none { IfNone result ((t : ℕ) → HasEdge graph.now.edges node t →
+        is_marked marks.now t ≡ true) }
     ensures later { steps.old ≤ steps.new }
 {
     let mut next = match seen.checked_sub(1) {
@@ -83,6 +84,7 @@ fn finish_from<L: Ledger>(
     ensures kept { (t : ℕ) → is_marked marks.old t ≡ true → is_marked marks.new t ≡ true }
     ensures later { steps.old ≤ steps.new }
 {
+    // The prover is told that the ends of all edges are nodes, and how many there may be.
     let _edges = graph.edges();
     let mut done = finished;
     let mut top = enter(root, order.len(), marks, seen, order);

@@ -35,7 +35,8 @@ fn list_level(nodes: u32, levels: &[u32], level: u32, list: &mut [u32]) -> usize
     requires levels { length levels.now ≡ nodes }
     requires room { length list.old ≡ nodes }
     ensures few { result ≤ nodes }
-    ensures lists { (y : ℕ) → Contains (take result list.new) y ↔ ((y < nodes) × (slice_index levels.now y ≡ level)) }
+    ensures lists { (y : ℕ) → Contains (take result list.new) y ↔ ((y < nodes)
+        × (slice_index levels.now y ≡ level)) }
 {
     let mut count = 0;
     for node in 0..nodes {

@@ -17,7 +17,8 @@ fn release(counts: &mut [u32], target: u32, ready: &mut NodeSet, kept: Option<u3
     requires room { slice_index counts.old target ≡ 1 → target < 64 * length ready.old }
     requires kept { HasRoom ready.old kept }
     ensures less { counts.new ≡ slice_set counts.old target (slice_index counts.old target - 1) }
-    ensures gained { (t : ℕ) → IsHeld ready.new result t ↔ (IsHeld ready.old kept t ⊎ ((t ≡ target) × (slice_index counts.old target ≡ 1))) }
+    ensures gained { (t : ℕ) → IsHeld ready.new result t ↔ (IsHeld ready.old kept t ⊎ ((t ≡ target)
+        × (slice_index counts.old target ≡ 1))) }
     ensures kept { HasRoom ready.new result }
     ensures room { length ready.new ≡ length ready.old }
 {
@@ -44,10 +45,12 @@ fn release_far<L: Ledger>(
     requires some { 1 ≤ more }
     requires counts { length counts.old ≡ graph.now.nodes + 1 }
     requires room { graph.now.nodes ≤ 64 * length ready.old }
-    requires enough { (t : ℕ) → t < graph.now.nodes → count_between graph.now.edges node t ≤ slice_index counts.old t }
+    requires enough { (t : ℕ) → t < graph.now.nodes →
+        count_between graph.now.edges node t ≤ slice_index counts.old t }
     ensures less { (t : ℕ) → t < graph.now.nodes →
         slice_index counts.new t + count_of (drop 3 (targets_from graph.now.edges node)) t ≡ slice_index counts.old t }
-    ensures spare { slice_index counts.new graph.now.nodes ≡ slice_index counts.old graph.now.nodes }
+    ensures spare { slice_index counts.new graph.now.nodes
+        ≡ slice_index counts.old graph.now.nodes }
     ensures counts { length counts.new ≡ length counts.old }
     ensures gained { GainsFreed (IsHeld ready.old None) (IsHeld ready.new result) counts.old counts.new }
     ensures kept { HasRoom ready.new result }
@@ -76,15 +79,18 @@ fn release_rest<L: Ledger>(
     requires node { node < graph.now.nodes }
     requires counts { length counts.old ≡ graph.now.nodes + 1 }
     requires room { graph.now.nodes ≤ 64 * length ready.old }
-    requires enough { (t : ℕ) → t < graph.now.nodes → count_between graph.now.edges node t ≤ slice_index counts.old t }
+    requires enough { (t : ℕ) → t < graph.now.nodes →
+        count_between graph.now.edges node t ≤ slice_index counts.old t }
     ensures less { (t : ℕ) → t < graph.now.nodes →
         slice_index counts.new t + count_of (drop 3 (targets_from graph.now.edges node)) t ≡ slice_index counts.old t }
-    ensures spare { slice_index counts.new graph.now.nodes ≡ slice_index counts.old graph.now.nodes }
+    ensures spare { slice_index counts.new graph.now.nodes
+        ≡ slice_index counts.old graph.now.nodes }
     ensures counts { length counts.new ≡ length counts.old }
     ensures gained { GainsFreed (IsHeld ready.old None) (IsHeld ready.new result) counts.old counts.new }
     ensures kept { HasRoom ready.new result }
     ensures room { length ready.new ≡ length ready.old }
-    ensures ticks { steps.new + min (out_degree graph.now.edges node) 3 ≡ steps.old + out_degree graph.now.edges node }
+    ensures ticks { steps.new + min (out_degree graph.now.edges node) 3
+        ≡ steps.old + out_degree graph.now.edges node }
 {
     let degree = graph.out_degree(node);
     let near = NEAR as u32;
@@ -141,7 +147,8 @@ pub fn release_all<L: Ledger>(
     requires node { node < graph.now.nodes }
     requires counts { length counts.old ≡ graph.now.nodes + 1 }
     requires room { graph.now.nodes ≤ 64 * length ready.old }
-    requires enough { (t : ℕ) → t < graph.now.nodes → count_between graph.now.edges node t ≤ slice_index counts.old t }
+    requires enough { (t : ℕ) → t < graph.now.nodes →
+        count_between graph.now.edges node t ≤ slice_index counts.old t }
     ensures less { (t : ℕ) → t < graph.now.nodes →
         slice_index counts.new t + count_between graph.now.edges node t ≡ slice_index counts.old t }
     ensures counts { length counts.new ≡ length counts.old }

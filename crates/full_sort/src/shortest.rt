@@ -10,11 +10,13 @@ use digraph::{Nodes, Pairs};
 fn least_of_level<P: Pairs>(pairs: &P, node: u32, levels: &[u32], level: u32) -> u32
     requires node { node < P.node_count pairs.now }
     requires levels { length levels.now ≡ P.node_count pairs.now }
-    requires some { (y : ℕ) × (y < P.node_count pairs.now) × (slice_index levels.now y ≡ level) × P.edges pairs.now node y }
+    requires some { (y : ℕ) × (y < P.node_count pairs.now) × (slice_index levels.now y ≡ level)
+        × P.edges pairs.now node y }
     ensures edge { P.edges pairs.now node result }
     ensures level { slice_index levels.now result ≡ level }
     ensures in_range { result < P.node_count pairs.now }
-    ensures least { (z : ℕ) → z < result → slice_index levels.now z ≡ level → ¬ P.edges pairs.now node z }
+    ensures least { (z : ℕ) → z < result → slice_index levels.now z ≡ level →
+        ¬ P.edges pairs.now node z }
 {
     for target in 0..pairs.nodes() {
         if levels[target as usize] == level && pairs.edge(node, target) {
@@ -32,9 +34,11 @@ fn descend<P: Pairs>(pairs: &P, start: u32, distance: u32, levels: &[u32], cycle
     requires some { 1 ≤ distance }
     requires few { distance ≤ P.node_count pairs.now }
     requires room { P.node_count pairs.now ≤ cycle.old.room }
-    ensures first { (more : List ℕ) × (cycle.new.list ≡ start ∷ more) × IsFirstShortestCycle (P.edges pairs.now) start more }
+    ensures first { (more : List ℕ) × (cycle.new.list ≡ start ∷ more)
+        × IsFirstShortestCycle (P.edges pairs.now) start more }
     ensures room { cycle.new.room ≡ cycle.old.room }
 {
+    // The prover is told how many nodes there may be.
     let _nodes = pairs.nodes();
     cycle.clear();
     cycle.push(start);
@@ -62,7 +66,8 @@ pub fn shortest_cycle<P: Pairs>(
     requires clear { (t : ℕ) → slice_index levels.old t ≡ 0 }
     requires list { length list.old ≡ P.node_count pairs.now }
     requires room { P.node_count pairs.now ≤ cycle.old.room }
-    ensures first { (more : List ℕ) × (cycle.new.list ≡ start ∷ more) × IsFirstShortestCycle (P.edges pairs.now) start more }
+    ensures first { (more : List ℕ) × (cycle.new.list ≡ start ∷ more)
+        × IsFirstShortestCycle (P.edges pairs.now) start more }
     ensures clear { (t : ℕ) → slice_index levels.new t ≡ 0 }
     ensures room { cycle.new.room ≡ cycle.old.room }
 {

@@ -85,6 +85,7 @@ pub fn least_order_into<L: Ledger>(
     ensures ticks { OnTrue result (steps.new ≡ steps.old + length graph.now.edges) }
     ensures bound { steps.new ≤ steps.old + length graph.now.edges }
 {
+    // The prover is told that the ends of all edges are nodes, and how many there may be.
     let _edges = graph.edges();
     order_all_into(
         graph,
@@ -119,6 +120,7 @@ pub fn window_order_into<L: Ledger>(
     ensures bound { steps.new ≤ steps.old +
         3 * (edges_out graph.now.edges window.now + edges_in graph.now.edges window.now) }
 {
+    // The prover is told that the ends of all edges are nodes, and how many there may be.
     let _edges = graph.edges();
     order_into(
         graph,
@@ -148,6 +150,7 @@ pub fn least_on_cycle<L: Ledger>(
     ensures room { scratch.new ≡ scratch.old }
     ensures later { steps.old ≤ steps.new }
 {
+    // The prover is told that the ends of all edges are nodes, and how many there may be.
     let _edges = graph.edges();
     finishing_order(
         graph,
@@ -170,7 +173,7 @@ pub fn least_on_cycle<L: Ledger>(
 
 /// Puts the first, in list order, of the shortest cycles that begin at `start` into `cycle`. The node lies on a cycle.
 /// A breadth-first search against the edges gives each node its distance to `start`; from there the least node of the level below is taken each
-/// time. A node that isn't reached yet is looked at once a level, and a reached one only where it may come next.
+/// time. A target that is not reached yet is looked at once a level, and a reached one only where it may come next.
 pub fn shortest_cycle_into<P: Pairs>(
     pairs: &P,
     start: u32,
@@ -185,6 +188,7 @@ pub fn shortest_cycle_into<P: Pairs>(
     ensures room { scratch.new ≡ scratch.old }
     ensures cycle_room { cycle.new.room ≡ cycle.old.room }
 {
+    // The prover is told how many nodes there may be.
     let _nodes = pairs.nodes();
     shortest_cycle(
         pairs,

@@ -16,7 +16,8 @@ fn find_ready(graph: &Graph, counts: &[u32], ready: &mut NodeSet)
     requires counts { length counts.now ≡ graph.now.nodes + 1 }
     requires room { graph.now.nodes ≤ 64 * length ready.old }
     requires empty { IsFirstBit ready.old None }
-    ensures ready { (t : ℕ) → (bit_of ready.new t ≡ 1) ↔ ((t < graph.now.nodes) × (slice_index counts.now t ≡ 0)) }
+    ensures ready { (t : ℕ) → (bit_of ready.new t ≡ 1) ↔ ((t < graph.now.nodes)
+        × (slice_index counts.now t ≡ 0)) }
     ensures room { length ready.new ≡ length ready.old }
 {
     for node in 0..graph.nodes() {
@@ -37,11 +38,15 @@ fn place_all<L: Ledger>(
     requires counts { length counts.old ≡ graph.now.nodes + 1 }
     requires room { graph.now.nodes ≤ 64 * length ready.old }
     requires placed { length placed.old ≡ graph.now.nodes }
-    requires counted { (t : ℕ) → t < graph.now.nodes → slice_index counts.old t ≡ in_degree graph.now.edges t }
-    requires ready { (t : ℕ) → (bit_of ready.old t ≡ 1) ↔ ((t < graph.now.nodes) × (slice_index counts.old t ≡ 0)) }
+    requires counted { (t : ℕ) → t < graph.now.nodes →
+        slice_index counts.old t ≡ in_degree graph.now.edges t }
+    requires ready { (t : ℕ) → (bit_of ready.old t ≡ 1) ↔ ((t < graph.now.nodes)
+        × (slice_index counts.old t ≡ 0)) }
     ensures few { result ≤ graph.now.nodes }
-    ensures found { result ≡ graph.now.nodes → IsLeastOrder (HasEdge graph.now.edges) (nodes_below graph.now.nodes) placed.new }
-    ensures none { result < graph.now.nodes → HasNoOrder (HasEdge graph.now.edges) (nodes_below graph.now.nodes) }
+    ensures found { result ≡ graph.now.nodes →
+        IsLeastOrder (HasEdge graph.now.edges) (nodes_below graph.now.nodes) placed.new }
+    ensures none { result < graph.now.nodes →
+        HasNoOrder (HasEdge graph.now.edges) (nodes_below graph.now.nodes) }
     ensures empty { IsFirstBit ready.new None }
     ensures room { length ready.new ≡ length ready.old }
     ensures ticks { result ≡ graph.now.nodes → steps.new ≡ steps.old + length graph.now.edges }

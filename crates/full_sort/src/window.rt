@@ -108,7 +108,8 @@ fn clean_up<L: Ledger>(
     requires counted { IsWaiting graph.now.edges graph.now.nodes window.now waiting.old marks.old }
     ensures no_counts { (t : ℕ) → slice_index waiting.new t ≡ 0 }
     ensures no_marks { (t : ℕ) → is_marked marks.new t ≡ false }
-    ensures ticks { steps.new ≡ steps.old + edges_out graph.now.edges (marked_of marks.old window.now) }
+    ensures ticks { steps.new
+        ≡ steps.old + edges_out graph.now.edges (marked_of marks.old window.now) }
 {
     for node in window {
         if marks[*node as usize] {

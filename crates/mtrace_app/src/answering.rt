@@ -18,14 +18,18 @@ use std::alloc::Global;
 
 /// The answer to words.
 pub(crate) fn answer<S: Source>(alloc: Global, words: &[String], source: &mut S) -> Answer
-    ensures words { HasNoSettings (texts words.now) → ((status_of result ≡ Status.Words) ⊎ (status_of result ≡ Status.Memory)) × (source.new ≡ source.old) }
+    ensures words { HasNoSettings (texts words.now) →
+        ((status_of result ≡ Status.Words) ⊎ (status_of result ≡ Status.Memory))
+        × (source.new ≡ source.old) }
     ensures not_built { (s : Settings) → HasSettings (texts words.now) s → ¬ (IsCheck s)
         → ((status_of result ≡ Status.NotBuilt) ⊎ (status_of result ≡ Status.Memory)) × (source.new ≡ source.old) }
     ensures caused { (s : Settings) → HasSettings (texts words.now) s → IsCheck s
         → IsCaused s.model s.chunk (S.left source.old) (S.left source.new) (status_of result) }
-    ensures reports { (s : Settings) → HasSettings (texts words.now) s → ReportsInput s.model s.chunk (S.left source.old) result }
+    ensures reports { (s : Settings) → HasSettings (texts words.now) s →
+        ReportsInput s.model s.chunk (S.left source.old) result }
     ensures too_large { WhereTold (S.left source.old) (S.left source.new) (λ before now. IsPastLimit before now → status_of result ≡ Status.TooLarge) }
-    ensures read_fault { status_of result ≡ Status.ReadFault → Rose (S.faults source.old) (S.faults source.new) }
+    ensures read_fault { status_of result ≡ Status.ReadFault →
+        Rose (S.faults source.old) (S.faults source.new) }
     ensures no_write_fault { status_of result ≢ Status.WriteFault }
     ensures rest { IsRestOf (S.left source.old) (S.left source.new) }
     ensures later { S.faults source.old ≤ S.faults source.new }
@@ -40,11 +44,14 @@ pub(crate) fn answer<S: Source>(alloc: Global, words: &[String], source: &mut S)
 
 /// The answer to a command with its settings.
 fn answer_command<S: Source>(alloc: Global, settings: &Settings, source: &mut S) -> Answer
-    ensures not_built { ¬ (IsCheck settings.now) → (status_of result ≡ Status.NotBuilt) × (source.new ≡ source.old) }
-    ensures caused { IsCheck settings.now → IsCaused settings.now.model settings.now.chunk (S.left source.old) (S.left source.new) (status_of result) }
+    ensures not_built { ¬ (IsCheck settings.now) →
+        (status_of result ≡ Status.NotBuilt) × (source.new ≡ source.old) }
+    ensures caused { IsCheck settings.now →
+        IsCaused settings.now.model settings.now.chunk (S.left source.old) (S.left source.new) (status_of result) }
     ensures reports { ReportsInput settings.now.model settings.now.chunk (S.left source.old) result }
     ensures too_large { WhereTold (S.left source.old) (S.left source.new) (λ before now. IsPastLimit before now → status_of result ≡ Status.TooLarge) }
-    ensures read_fault { status_of result ≡ Status.ReadFault → Rose (S.faults source.old) (S.faults source.new) }
+    ensures read_fault { status_of result ≡ Status.ReadFault →
+        Rose (S.faults source.old) (S.faults source.new) }
     ensures no_write_fault { status_of result ≢ Status.WriteFault }
     ensures rest { IsRestOf (S.left source.old) (S.left source.new) }
     ensures later { S.faults source.old ≤ S.faults source.new }

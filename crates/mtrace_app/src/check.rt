@@ -54,8 +54,10 @@ fn answer_recorded(
 ) -> Result<Answer, AllocError>
     requires plan { recorded.now.plan ≡ recorded.now.test }
     requires few { recorded.now.runs < 2 ^ 32 }
-    requires meant { FitLimits recorded.now.runs (load_count recorded.now.test) → AreMeant recorded.now.test (signatures recorded.now.tally) }
-    ensures { IfOk result (λ answer. (bytes : List ℕ) (runs : List (List ℕ)) → IsRecorded bytes recorded.now.test runs
+    requires meant { FitLimits recorded.now.runs (load_count recorded.now.test) →
+        AreMeant recorded.now.test (signatures recorded.now.tally) }
+    ensures { IfOk result (λ answer. (bytes : List ℕ) (runs : List (List ℕ)) →
+        IsRecorded bytes recorded.now.test runs
         → IsCounted recorded.now.test runs recorded.now.runs recorded.now.tally → IsAnswer model chunk bytes answer) }
 {
     if recorded.runs > MAX_RUNS {

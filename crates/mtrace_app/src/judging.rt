@@ -135,7 +135,8 @@ impl Judge {
         ensures room { IsJudge self.new }
         ensures fixed { self.new.fixed ≡ self.old.fixed }
         ensures means { Means plan.now words.now self.new.run.items }
-        ensures one { (other : List ℕ) → Means plan.now words.now other → other ≡ self.new.run.items }
+        ensures one { (other : List ℕ) → Means plan.now words.now other →
+            other ≡ self.new.run.items }
     {
         plan.decode_into(words, &mut self.run).unwrap();
     }
@@ -173,6 +174,7 @@ impl Judge {
         ensures fixed { self.new.fixed ≡ self.old.fixed }
         ensures canonical { IfOk result (λ nodes. IsCanonicalRunCycle self.old.fixed.model self.old.fixed.test self.old.run.items nodes.list) }
     {
+        // The prover is told how many nodes there may be.
         let _nodes = self.graph.nodes();
         find_cycle::<Brand>(
             &self.fixed,

@@ -9,8 +9,10 @@ ghost use Rattle.mtrace_app.specs.Recorded.{IsRecorded, IsRefusedInput};
 
 /// An input has one test with one list of recorded runs at most, and then it isn't refused.
 pub fn inputs_say_one_thing()
-    ensures one { (bytes : List ℕ) (p q : Program) (runs others : List (List ℕ)) → IsRecorded bytes p runs → IsRecorded bytes q others → (p ≡ q) × (runs ≡ others) }
-    ensures not_both { (bytes : List ℕ) (p : Program) (runs : List (List ℕ)) (fault : InputFault) → IsRecorded bytes p runs → ¬ (IsRefusedInput bytes fault) }
+    ensures one { (bytes : List ℕ) (p q : Program) (runs others : List (List ℕ)) →
+        IsRecorded bytes p runs → IsRecorded bytes q others → (p ≡ q) × (runs ≡ others) }
+    ensures not_both { (bytes : List ℕ) (p : Program) (runs : List (List ℕ)) (fault : InputFault) →
+        IsRecorded bytes p runs → ¬ (IsRefusedInput bytes fault) }
 {}
 
 /// An input has recorded runs, or is refused.

@@ -34,15 +34,20 @@ pub fn mtrace<S: Source, K: Sink, E: Sink, G: Gate + Sync>(
     gate: &G,
 ) -> Status
     // Words without settings are refused at once, and a command that isn't built is told to be so.
-    ensures words { HasNoSettings (texts words.now) → ((result ≡ Status.Words) ⊎ (result ≡ Status.Memory)) × (source.new ≡ source.old) × Keeps (K.held sink.old) (K.held sink.new) }
+    ensures words { HasNoSettings (texts words.now) →
+        ((result ≡ Status.Words) ⊎ (result ≡ Status.Memory)) × (source.new ≡ source.old)
+        × Keeps (K.held sink.old) (K.held sink.new) }
     ensures not_built { (s : Settings) → HasSettings (texts words.now) s → ¬ (IsCheck s)
         → ((result ≡ Status.NotBuilt) ⊎ (result ≡ Status.Memory)) × (source.new ≡ source.old) × Keeps (K.held sink.old) (K.held sink.new) }
 
     // `check`: each answer has its cause. Want of memory needs none.
-    ensures caused { (s : Settings) → HasSettings (texts words.now) s → IsCheck s → IsCaused s.model s.chunk (S.left source.old) (S.left source.new) result }
+    ensures caused { (s : Settings) → HasSettings (texts words.now) s → IsCheck s →
+        IsCaused s.model s.chunk (S.left source.old) (S.left source.new) result }
     ensures too_large { WhereTold (S.left source.old) (S.left source.new) (λ before now. IsPastLimit before now → result ≡ Status.TooLarge) }
-    ensures read_fault { result ≡ Status.ReadFault → Rose (S.faults source.old) (S.faults source.new) }
-    ensures write_fault { result ≡ Status.WriteFault → Rose (K.faults sink.old) (K.faults sink.new) }
+    ensures read_fault { result ≡ Status.ReadFault →
+        Rose (S.faults source.old) (S.faults source.new) }
+    ensures write_fault { result ≡ Status.WriteFault →
+        Rose (K.faults sink.old) (K.faults sink.new) }
     ensures rest { IsRestOf (S.left source.old) (S.left source.new) }
     ensures source_later { S.faults source.old ≤ S.faults source.new }
 
@@ -54,13 +59,16 @@ pub fn mtrace<S: Source, K: Sink, E: Sink, G: Gate + Sync>(
         → IsAnswered s.chunk bytes (K.faults sink.old) (K.faults sink.new) result) }
 
     // The sink gets the report of the recorded runs, or a front of it where it fails, or nothing.
-    ensures report { (s : Settings) → HasSettings (texts words.now) s → IsCheck s → Writes s.model s.chunk (S.left source.old) (K.held sink.old) (K.held sink.new) result }
+    ensures report { (s : Settings) → HasSettings (texts words.now) s → IsCheck s →
+        Writes s.model s.chunk (S.left source.old) (K.held sink.old) (K.held sink.new) result }
     ensures sink_later { K.faults sink.old ≤ K.faults sink.new }
 
     // The errors get the status's line, or its front where they fail. That changes no status.
     ensures line { ¬ (Rose (E.faults errs.old) (E.faults errs.new))
         → (told : List ℕ) × TellsStatus (S.left source.old) (S.left source.new) result told × Appends (E.held errs.old) (E.held errs.new) told }
-    ensures front { (told : List ℕ) × TellsStatus (S.left source.old) (S.left source.new) result told × AppendsFront (E.held errs.old) (E.held errs.new) told }
+    ensures front { (told : List ℕ)
+        × TellsStatus (S.left source.old) (S.left source.new) result told
+        × AppendsFront (E.held errs.old) (E.held errs.new) told }
     ensures errs_later { E.faults errs.old ≤ E.faults errs.new }
 {
     let answer = answer(alloc, words, source);

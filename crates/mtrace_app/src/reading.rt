@@ -37,7 +37,8 @@ pub(crate) fn read_to_end<S: Source>(alloc: Global, source: &mut S) -> Result<Ve
     ensures bytes { IfOk result (λ bytes. IfSome (S.left source.old) (λ left. bytes.items ≡ left)) }
     ensures end { OnOk result (IsAtEnd (S.left source.new)) }
     ensures fits { IfOk result (λ bytes. vec_len bytes ≤ 2 ^ 30) }
-    ensures fault { IsErrOf result ReadError.Fault → Rose (S.faults source.old) (S.faults source.new) }
+    ensures fault { IsErrOf result ReadError.Fault →
+        Rose (S.faults source.old) (S.faults source.new) }
     ensures too_large { WhereTold (S.left source.old) (S.left source.new)
         (λ before now. IsErrOf result ReadError.TooLarge ↔ IsPastLimit before now) }
     ensures rest { IsRestOf (S.left source.old) (S.left source.new) }

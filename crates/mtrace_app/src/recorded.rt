@@ -75,7 +75,8 @@ fn count_run(
     requires room { total_of counter.old.pairs < 2 ^ 32 }
     ensures counted { OnOk result (FitLimits runs (load_count plan.now) → (outcomes : List Outcome)
         → HasCounted outcomes counter.old → HasCounted (outcomes ++ outcome_of plan.now run.now ∷ []) counter.new) }
-    ensures total { OnOk result (FitLimits runs (load_count plan.now) → total_of counter.new.pairs ≡ total_of counter.old.pairs + 1) }
+    ensures total { OnOk result (FitLimits runs (load_count plan.now) →
+        total_of counter.new.pairs ≡ total_of counter.old.pairs + 1) }
     ensures most { OnOk result (total_of counter.new.pairs ≤ total_of counter.old.pairs + 1) }
     ensures width { OnOk result (counter.new.width ≡ counter.old.width) }
 {
@@ -91,7 +92,8 @@ fn count_run(
 /// Reads all runs of a text, and counts their outcomes as far as the limits go. No run is kept.
 fn count_runs(alloc: Global, plan: &Plan, text: &[u8], line: u32) -> Result<Counted, Unread>
     requires { line + length text.now < 2 ^ 32 }
-    ensures ok { IfOk result (λ counted. (runs : List (List ℕ)) × (reading (text_behind plan.now line text.now) ≡ Ok runs)
+    ensures ok { IfOk result (λ counted. (runs : List (List ℕ))
+        × (reading (text_behind plan.now line text.now) ≡ Ok runs)
         × IsCounted plan.now runs counted.runs counted.tally) }
     ensures few { IfOk result (λ counted. counted.runs ≤ length text.now) }
     ensures err { IfErr result (IsUnreadBehind (text_behind plan.now line text.now)) }
@@ -119,7 +121,8 @@ pub(crate) fn read_input(alloc: Global, input: &[u8]) -> Result<Recorded, Unread
         × IsRecorded input.now recorded.test runs
         × IsCounted recorded.test runs recorded.runs recorded.tally) }
     ensures few { IfOk result (λ recorded. recorded.runs < 2 ^ 32) }
-    ensures meant { IfOk result (λ recorded. FitLimits recorded.runs (load_count recorded.test) → AreMeant recorded.test (signatures recorded.tally)) }
+    ensures meant { IfOk result (λ recorded. FitLimits recorded.runs (load_count recorded.test) →
+        AreMeant recorded.test (signatures recorded.tally)) }
     ensures err { IfErr result (IsUnread input.now) }
 {
     let read = Test::read(alloc, input)?;

@@ -9,7 +9,8 @@ use std::alloc::AllocError;
 /// The value of the part at the front, and the bytes behind it, where it has one to three digits and stands before others.
 #[inline(always)]
 fn small_part(text: &[u8]) -> Option<(u32, &[u8])>
-    ensures exact { IfSome result (λ part. parts gap text.now ≡ with_front part.0 (parts gap part.1.now)) }
+    ensures exact { IfSome result (λ part. parts gap text.now
+        ≡ with_front part.0 (parts gap part.1.now)) }
     ensures small { IfSome result (λ part. part.0 < 1000) }
     ensures shorter { IfSome result (λ part. length part.1.now + 2 ≤ length text.now) }
 {
@@ -39,7 +40,8 @@ fn fill_small<'a>(bytes: &'a [u8], first: usize, places: &mut [u32]) -> (usize, 
     requires { first ≤ length places.old }
     ensures within { (first ≤ result.0) × (result.0 ≤ length places.old) }
     ensures front { take first places.new ≡ take first places.old }
-    ensures read { (values : List ℕ) × SoFar (length places.old - first) bytes.now result.1.now (take first places.old)
+    ensures read { (values : List ℕ)
+        × SoFar (length places.old - first) bytes.now result.1.now (take first places.old)
         (record { count = result.0 - first; all_fit = true }) (take result.0 places.new) values }
 {
     let mut left = bytes;
@@ -60,7 +62,8 @@ pub(crate) fn read_small<'a>(
     values: &mut Vec<u32>,
 ) -> Result<(Found, &'a [u8]), AllocError>
     ensures front { take (vec_len values.old) values.new.items ≡ values.old.items }
-    ensures read { IfOk result (λ read. (found : List ℕ) × SoFar want bytes.now read.1.now values.old.items read.0 values.new.items found) }
+    ensures read { IfOk result (λ read. (found : List ℕ)
+        × SoFar want bytes.now read.1.now values.old.items read.0 values.new.items found) }
 {
     let first = values.len();
     values.resize(first + want as usize, 0)?;

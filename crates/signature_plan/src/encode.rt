@@ -31,7 +31,8 @@ impl Plan {
         requires loads { length run.now ≡ load_count self.now }
         requires fits { group_product self.now (loads_between self.now first end) ≤ 2 ^ 64 }
         ensures inside { OnTrue result.1 (ReadCandidates self.now run.now first end) }
-        ensures word { IsInside self.now run.now → result.0 ≡ mixed_radix (candidate_count self.now) (place self.now run.now) (loads_between self.now first end) }
+        ensures word { IsInside self.now run.now →
+            result.0 ≡ mixed_radix (candidate_count self.now) (place self.now run.now) (loads_between self.now first end) }
     {
         let mut word = 0u64;
         let mut inside = true;
@@ -68,7 +69,8 @@ impl Plan {
     fn write_short(&self, run: &[u32], out: &mut [u64]) -> bool
         requires loads { length run.now ≡ load_count self.now }
         requires words { length out.old ≡ length (groups self.now) }
-        ensures written { OnTrue result (IsInside self.now run.now × (out.new ≡ signature self.now run.now)) }
+        ensures written { OnTrue result (IsInside self.now run.now
+            × (out.new ≡ signature self.now run.now)) }
         ensures unchanged { OnFalse result (out.new ≡ out.old) }
     {
         if out.len() > FEW {
@@ -89,10 +91,13 @@ impl Plan {
         requires words { length out.old ≡ length (groups self.now) }
         ensures ok { OnOk result (Means self.now out.new run.now) }
         ensures inside { IsOk result ↔ IsInside self.now run.now }
-        ensures outside { IfErr result (λ outside. outside_of self.now run.now ≡ Some (outside.node, outside.value)) }
+        ensures outside { IfErr result (λ outside. outside_of self.now run.now
+            ≡ Some (outside.node, outside.value)) }
         ensures err { OnErr result (out.new ≡ out.old) }
-        ensures outcome_inside { OnOk result (outcome_of self.now run.now ≡ Outcome.Inside out.new) }
-        ensures outcome_outside { IfErr result (λ outside. outcome_of self.now run.now ≡ Outcome.Outside outside.node outside.value) }
+        ensures outcome_inside { OnOk result (outcome_of self.now run.now
+            ≡ Outcome.Inside out.new) }
+        ensures outcome_outside { IfErr result (λ outside. outcome_of self.now run.now
+            ≡ Outcome.Outside outside.node outside.value) }
     {
         if self.write_short(run, out) {
             return Ok(());

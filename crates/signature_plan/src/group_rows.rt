@@ -74,7 +74,8 @@ fn cut_thread(candidates: &Candidates, thread: u32, rows: &mut Vec<Group>) -> Re
 
 /// The groups of all loads, those of thread 0 first.
 pub(crate) fn cut_loads(alloc: Global, candidates: &Candidates) -> Result<Vec<Group>, AllocError>
-    ensures { IfOk result (λ rows. rows.items ≡ map (row_of candidates.now) (groups candidates.now)) }
+    ensures { IfOk result (λ rows. rows.items
+        ≡ map (row_of candidates.now) (groups candidates.now)) }
 {
     let test = candidates.test();
     let mut rows = Vec::new(alloc);

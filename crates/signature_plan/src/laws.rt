@@ -11,10 +11,12 @@ ghost use Rattle.test_lang.specs.Values.{load_nodes, thread_loads};
 
 /// Words below their groups' products mean exactly one run, and other words mean none. So no two runs that are inside have one signature.
 pub fn words_mean_one_run()
-    ensures some { (p : Program) (words : List ℕ) → IsWithinLimits p → FitGroups p words → Means p words (run_of p words) }
+    ensures some { (p : Program) (words : List ℕ) → IsWithinLimits p → FitGroups p words →
+        Means p words (run_of p words) }
     ensures only { (p : Program) (words run : List ℕ) → Means p words run → run ≡ run_of p words }
     ensures fit { (p : Program) (words run : List ℕ) → Means p words run → FitGroups p words }
-    ensures injective { (p : Program) (a b : List ℕ) → IsInside p a → IsInside p b → signature p a ≡ signature p b → a ≡ b }
+    ensures injective { (p : Program) (a b : List ℕ) → IsInside p a → IsInside p b →
+        signature p a ≡ signature p b → a ≡ b }
 {}
 
 /// The groups of a thread are its loads in order, none is empty, and each is the longest that fits a word. Those of all threads are all loads.

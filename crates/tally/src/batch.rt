@@ -86,7 +86,8 @@ impl Batch {
     /// Where the row stands, if a guess leads there, and otherwise the way on which it is guessed from now on. New rows begin a
     /// width apart, so a row is compared without a look at its place, which is read meanwhile.
     fn find(&self, row: &[u64], hash: u64) -> Result<usize, usize>
-        ensures { IfOk result (λ place. (place < length self.now.rows) × ((slice_index_or self.now.rows place (row.now, 0)).0 ≡ row.now)) }
+        ensures { IfOk result (λ place. (place < length self.now.rows)
+            × ((slice_index_or self.now.rows place (row.now, 0)).0 ≡ row.now)) }
     {
         'ways: for way in 0..WAYS {
             let Some(place) = self.guesses.at(hash, way) else {
@@ -118,7 +119,8 @@ impl Batch {
         requires width { length row.now ≡ self.old.width }
         requires room { length (all_rows self.old.rows) + 1 < 2 ^ 64 }
         ensures width { self.new.width ≡ self.old.width }
-        ensures pushed { OnOk result (all_rows self.new.rows ≡ all_rows self.old.rows ++ row.now ∷ []) }
+        ensures pushed { OnOk result (all_rows self.new.rows
+            ≡ all_rows self.old.rows ++ row.now ∷ []) }
         ensures refused { OnErr result (self.new ≡ self.old) }
     {
         let start = self.words.len();

@@ -69,9 +69,11 @@ impl Counter {
         requires room { total_of self.old.pairs < 2 ^ 64 - 1 }
         requires width { length words.now ≡ self.old.width }
         ensures width { self.new.width ≡ self.old.width }
-        ensures added { OnOk result (self.new.pairs ≡ with_one_more self.old.pairs (Outcome.Inside words.now)) }
+        ensures added { OnOk result (self.new.pairs
+            ≡ with_one_more self.old.pairs (Outcome.Inside words.now)) }
         ensures total { OnOk result (total_of self.new.pairs ≡ total_of self.old.pairs + 1) }
-        ensures counted { OnOk result ((outcomes : List Outcome) → HasCounted outcomes self.old → HasCounted (outcomes ++ Outcome.Inside words.now ∷ []) self.new) }
+        ensures counted { OnOk result ((outcomes : List Outcome) → HasCounted outcomes self.old →
+            HasCounted (outcomes ++ Outcome.Inside words.now ∷ []) self.new) }
         ensures refused { OnErr result (self.new ≡ self.old) }
     {
         self.make_room()?;
@@ -84,9 +86,11 @@ impl Counter {
     pub fn count_outside(&mut self, node: u32, value: u32) -> Result<(), AllocError>
         requires room { total_of self.old.pairs < 2 ^ 64 - 1 }
         ensures width { self.new.width ≡ self.old.width }
-        ensures added { OnOk result (self.new.pairs ≡ with_one_more self.old.pairs (Outcome.Outside node value)) }
+        ensures added { OnOk result (self.new.pairs
+            ≡ with_one_more self.old.pairs (Outcome.Outside node value)) }
         ensures total { OnOk result (total_of self.new.pairs ≡ total_of self.old.pairs + 1) }
-        ensures counted { OnOk result ((outcomes : List Outcome) → HasCounted outcomes self.old → HasCounted (outcomes ++ Outcome.Outside node value ∷ []) self.new) }
+        ensures counted { OnOk result ((outcomes : List Outcome) → HasCounted outcomes self.old →
+            HasCounted (outcomes ++ Outcome.Outside node value ∷ []) self.new) }
         ensures refused { OnErr result (self.new ≡ self.old) }
     {
         let Ok(()) = self.tally.add(Outcome::Outside { node, value }) else {
@@ -98,7 +102,8 @@ impl Counter {
     /// The tally of all outcomes that were counted. `Err` means want of memory.
     pub fn finish(self) -> Result<Tally, AllocError>
         ensures pairs { IfOk result (λ tally. tally ≡ self.pairs) }
-        ensures counted { IfOk result (λ tally. (outcomes : List Outcome) → HasCounted outcomes self → IsTally outcomes tally) }
+        ensures counted { IfOk result (λ tally. (outcomes : List Outcome) →
+            HasCounted outcomes self → IsTally outcomes tally) }
     {
         let Counter {
             alloc,
@@ -137,7 +142,8 @@ fn empty_batch(
     requires { CanCount tally.old (all_rows batch.old.rows) }
     ensures sound { CanCount tally.new (all_rows batch.new.rows) }
     ensures width { batch.new.width ≡ batch.old.width }
-    ensures same { with_rows tally.new (all_rows batch.new.rows) ≡ with_rows tally.old (all_rows batch.old.rows) }
+    ensures same { with_rows tally.new (all_rows batch.new.rows)
+        ≡ with_rows tally.old (all_rows batch.old.rows) }
     ensures emptied { OnOk result (batch.new.rows ≡ []) }
 {
     batch.sort();

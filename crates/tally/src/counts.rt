@@ -49,7 +49,8 @@ impl Tally {
         ensures added { OnOk result (self.new ≡ with_one_more self.old outcome) }
         ensures total { OnOk result (total_of self.new ≡ total_of self.old + 1) }
         // The tally of a list becomes the tally of the list with this outcome at its end.
-        ensures tally { OnOk result ((outcomes : List Outcome) → IsTally outcomes self.old → IsTally (outcomes ++ outcome ∷ []) self.new) }
+        ensures tally { OnOk result ((outcomes : List Outcome) → IsTally outcomes self.old →
+            IsTally (outcomes ++ outcome ∷ []) self.new) }
         ensures refused { IfErr result (λ back. (back ≡ outcome) × (self.new ≡ self.old)) }
         ensures sound { IsCounts self.new }
     {
@@ -116,7 +117,8 @@ fn add_times(
 ) -> Result<(), Outcome>
     requires { total_of counts.old.entries + times < 2 ^ 64 }
     ensures added { OnOk result (counts.new.entries ≡ with_more counts.old.entries outcome times) }
-    ensures refused { IfErr result (λ back. (back ≡ outcome) × (counts.new.entries ≡ counts.old.entries)) }
+    ensures refused { IfErr result (λ back. (back ≡ outcome)
+        × (counts.new.entries ≡ counts.old.entries)) }
 {
     match counts.entry(outcome) {
         Ok(entry) => {

@@ -11,5 +11,6 @@ pub fn equal_outcomes_are_the_same()
 
 /// A list of outcomes has one tally.
 pub fn one_tally()
-    ensures { (outcomes : List Outcome) (pairs others : List (Outcome × ℕ)) → IsTally outcomes pairs → IsTally outcomes others → pairs ≡ others }
+    ensures { (outcomes : List Outcome) (pairs others : List (Outcome × ℕ)) →
+        IsTally outcomes pairs → IsTally outcomes others → pairs ≡ others }
 {}

@@ -41,7 +41,8 @@ impl Static {
     fn put_first_stores<L: Ledger>(&self, load: u32, out: &mut Edges, steps: &mut Steps<L>)
         requires load { IsTrue (is_load_at self.now.test load) }
         requires room { length out.old.list + length self.now.test.threads ≤ out.old.room }
-        ensures put { out.new ≡ record out.old { list = out.old.list ++ edges_to_first_stores self.now.test load } }
+        ensures put { out.new
+            ≡ record out.old { list = out.old.list ++ edges_to_first_stores self.now.test load } }
         ensures ticks { steps.new ≡ steps.old + length (edges_to_first_stores self.now.test load) }
     {
         let word = word_of(&self.test, load) as usize;
@@ -57,8 +58,10 @@ impl Static {
         requires load { load < op_count self.now.test }
         requires store { store < op_count self.now.test }
         requires room { length out.old.list + 2 ≤ out.old.room }
-        ensures put { out.new ≡ record out.old { list = out.old.list ++ edges_by_store self.now.test load (Some store) } }
-        ensures ticks { steps.new ≡ steps.old + length (edges_by_store self.now.test load (Some store)) }
+        ensures put { out.new
+            ≡ record out.old { list = out.old.list ++ edges_by_store self.now.test load (Some store) } }
+        ensures ticks { steps.new
+            ≡ steps.old + length (edges_by_store self.now.test load (Some store)) }
     {
         if self.test.thread_of(store) == self.test.thread_of(load) {
             return;
@@ -79,7 +82,8 @@ impl Static {
         requires inside { IsInside self.now.test run.now }
         requires rank { rank < load_count self.now.test }
         requires room { 2 + length self.now.test.threads ≤ out.old.room }
-        ensures edges { out.new ≡ record out.old { list = edges_of_load self.now.test run.now (slice_index (load_nodes self.now.test) rank) } }
+        ensures edges { out.new
+            ≡ record out.old { list = edges_of_load self.now.test run.now (slice_index (load_nodes self.now.test) rank) } }
         ensures few { length out.new.list ≤ 2 + length self.now.test.threads }
         ensures ticks { steps.new ≡ steps.old + length out.new.list }
     {

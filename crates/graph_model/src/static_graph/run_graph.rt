@@ -13,7 +13,8 @@ use std::sync::ledger::Ledger;
 
 /// Adds edges in their order.
 fn add_edges(graph: &mut Graph, edges: &[(u32, u32)])
-    requires ends { All (λ edge. (edge.0 < graph.old.nodes) × (edge.1 < graph.old.nodes)) edges.now }
+    requires ends { All (λ edge. (edge.0 < graph.old.nodes)
+        × (edge.1 < graph.old.nodes)) edges.now }
     requires room { length graph.old.edges + length edges.now ≤ graph.old.room }
     ensures { graph.new ≡ with_edges graph.old edges.now }
 {
@@ -26,7 +27,8 @@ fn add_edges(graph: &mut Graph, edges: &[(u32, u32)])
 impl Static {
     fn graph_with_room(&self, alloc: Global, more: u32) -> Result<Graph, AllocError>
         requires { length self.now.graph.edges + more < 2 ^ 32 }
-        ensures { IfOk result (λ copy. copy ≡ record self.now.graph { room = length self.now.graph.edges + more }) }
+        ensures { IfOk result (λ copy. copy
+            ≡ record self.now.graph { room = length self.now.graph.edges + more }) }
     {
         let edges = self.graph.edges();
         let mut copy = Graph::with_room(alloc, self.graph.nodes(), edges + more)?;
@@ -41,7 +43,8 @@ impl Static {
         ensures copy { IfOk result (λ copy. copy ≡ record self.now.graph {
           room = length self.now.graph.edges + load_count self.now.test * (2 + length self.now.test.threads);
         }) }
-        ensures begins { IfOk result (λ copy. take (length self.now.graph.edges) copy.edges ≡ self.now.graph.edges) }
+        ensures begins { IfOk result (λ copy. take (length self.now.graph.edges) copy.edges
+            ≡ self.now.graph.edges) }
     {
         self.graph_with_room(alloc, self.test.loads() * (2 + self.test.threads()))
     }
@@ -57,7 +60,8 @@ impl Static {
     )
         requires inside { IsInside self.now.test run.now }
         requires nodes { graph.old.nodes ≡ self.now.graph.nodes }
-        requires begins { take (length self.now.graph.edges) graph.old.edges ≡ self.now.graph.edges }
+        requires begins { take (length self.now.graph.edges) graph.old.edges
+            ≡ self.now.graph.edges }
         requires room { length self.now.graph.edges + load_count self.now.test * (2 + length self.now.test.threads) ≤ graph.old.room }
         requires out_room { 2 + length self.now.test.threads ≤ out.old.room }
         ensures graph { graph.new ≡ record graph.old { edges = few_run_edges self.now run.now } }
@@ -67,7 +71,8 @@ impl Static {
         ensures begins { take (length self.now.graph.edges) graph.new.edges ≡ self.now.graph.edges }
         ensures room { length self.now.graph.edges + load_count self.now.test * (2 + length self.now.test.threads) ≤ graph.new.room }
         ensures out_room { out.new.room ≡ out.old.room }
-        ensures ticks { steps.new + length self.now.graph.edges ≡ steps.old + length graph.new.edges }
+        ensures ticks { steps.new + length self.now.graph.edges
+            ≡ steps.old + length graph.new.edges }
     {
         graph.truncate(self.graph.edges());
         for rank in 0..self.test.loads() {
