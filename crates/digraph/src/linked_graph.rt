@@ -1,5 +1,5 @@
 //! Graphs whose edges stand in linked arrays.
-ghost use Rattle.std.specs.Prelude.{◌≡◌, ℕ, ◌+◌, ◌-◌, ◌*◌, ◌<◌, ◌≤◌, [], ◌∷◌, ◌++◌, length, slice_index, slice_index_or, take, min, IfOk, is_some, if◌then◌else◌};
+ghost use Rattle.std.specs.Prelude.{◌≡◌, ℕ, ◌+◌, ◌-◌, ◌*◌, ◌<◌, ◌≤◌, [], ◌∷◌, ◌++◌, length, slice_index, slice_index_or, take, min, All, IfOk, is_some, if◌then◌else◌};
 ghost use Rattle.digraph.specs.Digraph.{IsDigraph, IsLastIn, IsLastOut, in_degree, out_degree, source_of, target_of, targets_from};
 
 use crate::links::Links;
@@ -102,6 +102,28 @@ impl Graph {
         while self.edges() > edges {
             self.pop();
         }
+    }
+
+    /// Adds edges in their order.
+    pub fn add_all(&mut self, edges: &[(u32, u32)])
+        requires ends { All (λ edge. (edge.0 < self.old.nodes)
+            × (edge.1 < self.old.nodes)) edges.now }
+        requires room { length self.old.edges + length edges.now ≤ self.old.room }
+        ensures { self.new ≡ record self.old { edges = self.old.edges ++ edges.now } }
+    {
+        for edge in edges {
+            let (from, to) = *edge;
+            self.add(from, to);
+        }
+    }
+
+    /// Takes the last added edges away until those of `start` are left, with which the graph begins. The time is that of the nodes.
+    pub fn truncate_to(&mut self, start: &Graph)
+        requires nodes { start.now.nodes ≡ self.old.nodes }
+        requires begins { take (length start.now.edges) self.old.edges ≡ start.now.edges }
+        ensures { self.new ≡ record self.old { edges = start.now.edges } }
+    {
+        self.truncate(start.edges());
     }
 
     /// The number of nodes.
