@@ -1,7 +1,8 @@
 -- The edges xs two lists of ends.
-use Rattle.std.proofs.Common.{◌≡◌, ℕ, ◌<◌, ◌≤◌, List, [], ◌∷◌, ◌++◌, All, Option, length, get_or, take, sym, ap, subst, arith, zero, suc, refl}
+use Rattle.std.proofs.Common.{◌≡◌, ℕ, ◌<◌, ◌≤◌, List, [], ◌∷◌, ◌++◌, All, Option, length, get_or, map, take, ◌∙◌, sym, ap, subst, arith, zero, suc, refl}
 use Rattle.std.specs.List.{zip}
-use Rattle.std.proofs.lemmas.Slice.Zip.{length-zip, get_or-zip}
+use Rattle.std.proofs.lemmas.List.{length-take}
+use Rattle.std.proofs.lemmas.Slice.Zip.{firsts-zip, seconds-zip, length-zip, get_or-zip}
 use Rattle.digraph.specs.Digraph.{IsLastBelow, IsLastOut, IsLastIn, source_of, target_of}
 use Rattle.digraph.proofs.Last.{last-same}
 
@@ -17,6 +18,28 @@ zip-take zero xs ys = refl
 zip-take (suc n) [] ys = refl
 zip-take (suc n) (x ∷ xs) [] = refl
 zip-take {A} {B} (suc n) (x ∷ xs) (y ∷ ys) = ap (λ (es : List (A × B)). (x, y) ∷ es) (zip-take n xs ys)
+
+pub zip-push_all : (xs ys : List ℕ) (es : List (ℕ × ℕ)) → length ys ≡ length xs → zip (xs ++ map (λ e. e.0) es) (ys ++ map (λ e. e.1) es) ≡ zip xs ys ++ es
+zip-push_all [] [] es same = zip-ends es
+  where
+    zip-ends : (es : List (ℕ × ℕ)) → zip (map (λ e. e.0) es) (map (λ e. e.1) es) ≡ es
+    zip-ends [] = refl
+    zip-ends (e ∷ es) = ap (λ (rest : List (ℕ × ℕ)). e ∷ rest) (zip-ends es)
+zip-push_all [] (y ∷ ys) es same = absurd (omega (arith, same))
+zip-push_all (x ∷ xs) [] es same = absurd (omega (arith, same))
+zip-push_all (x ∷ xs) (y ∷ ys) es same = ap (λ (rest : List (ℕ × ℕ)). (x, y) ∷ rest) (zip-push_all xs ys es (omega (arith, same)))
+
+-- where the edges begin with others, so do their ends
+pub zip-begins : (xs ys vs ws : List ℕ) → length ys ≡ length xs → length ws ≡ length vs → take (length vs) (zip xs ys) ≡ zip vs ws → (take (length vs) xs ≡ vs) × (take (length ws) ys ≡ ws)
+zip-begins xs ys vs ws long same e =
+    let n : ℕ = length vs in
+    let taken : zip (take n xs) (take n ys) ≡ zip vs ws = zip-take n xs ys ∙ e in
+    let left = length-take n xs in
+    let right = length-take n ys in
+    let even : length (take n ys) ≡ length (take n xs) = rw (left, right, long) refl in (
+      sym (firsts-zip (take n xs) (take n ys) even) ∙ ap (map (λ (p : ℕ × ℕ). p.0)) taken ∙ firsts-zip vs ws same,
+      ap (λ (k : ℕ). take k ys) same ∙ sym (seconds-zip (take n xs) (take n ys) even) ∙ ap (map (λ (p : ℕ × ℕ). p.1)) taken ∙ seconds-zip vs ws same,
+    )
 
 module _ (xs ys : List ℕ) (same : length ys ≡ length xs) where
   pub zip-count : length (zip xs ys) ≡ length xs

@@ -1,9 +1,9 @@
 -- A graph that is seen as its two lists of ends.
-use Rattle.std.proofs.Common.{◌≡◌, ◌∙◌, ℕ, ◌<◌, ◌≤◌, List, [], ◌∷◌, ◌++◌, All, Option, length, get_or, take, sym, ap, subst}
+use Rattle.std.proofs.Common.{◌≡◌, ◌∙◌, ℕ, ◌<◌, ◌≤◌, List, [], ◌∷◌, ◌++◌, All, Option, length, get_or, map, take, sym, ap, subst}
 use Rattle.std.specs.List.{zip}
 use Rattle.digraph.specs.Digraph.{Digraph, IsDigraph, IsLastBelow, IsLastOut, IsLastIn, source_of, target_of}
 use Rattle.digraph.specs.KeyList.{KeyList, ArePaired, digraph_of}
-use Rattle.digraph.proofs.Ends.{zip-push, zip-take, zip-count, zip-source, zip-target, zip-last_out, zip-last_in, zip-inside}
+use Rattle.digraph.proofs.Ends.{zip-begins, zip-push, zip-push_all, zip-take, zip-count, zip-source, zip-target, zip-last_out, zip-last_in, zip-inside}
 
 abbrev with_edges : Digraph → List (ℕ × ℕ) → Digraph
 with_edges g es = record { nodes = g.nodes; room = g.room; edges = es }
@@ -50,6 +50,26 @@ module _ (s t : KeyList) (pair : ArePaired s t) (g : Digraph) (view : digraph_of
   viewed-add a b =
       ap (λ (es : List (ℕ × ℕ)). with_edges (digraph_of s t) es) (zip-push s.keys t.keys a b pair.count)
       ∙ ap (λ (g : Digraph). with_edges g (g.edges ++ (a, b) ∷ [])) view
+
+  pub viewed-add_all : (more : List (ℕ × ℕ)) → digraph_of (record s { keys = s.keys ++ map (λ e. e.0) more }) (record t { keys = t.keys ++ map (λ e. e.1) more }) ≡ record g { edges = g.edges ++ more }
+  viewed-add_all more =
+      ap (λ (es : List (ℕ × ℕ)). with_edges (digraph_of s t) es) (zip-push_all s.keys t.keys more pair.count)
+      ∙ ap (λ (g : Digraph). with_edges g (g.edges ++ more)) view
+
+  pub viewed-begun : (s0 t0 : KeyList) (g0 : Digraph) → digraph_of s0 t0 ≡ g0 → digraph_of (record s { keys = s0.keys }) (record t { keys = t0.keys }) ≡ record g { edges = g0.edges }
+  viewed-begun s0 t0 g0 view0 =
+      ap (λ (g : Digraph). with_edges (digraph_of s t) g.edges) view0
+      ∙ ap (λ (g : Digraph). with_edges g g0.edges) view
+
+  -- where the edges begin with those of another graph, so do their ends
+  pub viewed-begins : (s0 t0 : KeyList) → ArePaired s0 t0 → (g0 : Digraph) → digraph_of s0 t0 ≡ g0 → take (length g0.edges) g.edges ≡ g0.edges →
+      (take (length s0.keys) s.keys ≡ s0.keys) × (take (length t0.keys) t.keys ≡ t0.keys)
+  viewed-begins s0 t0 pair0 g0 view0 e =
+      let edges : zip s.keys t.keys ≡ g.edges = ap (λ (g : Digraph). g.edges) view in
+      let begun : zip s0.keys t0.keys ≡ g0.edges = ap (λ (g : Digraph). g.edges) view0 in
+      let count : length g0.edges ≡ length s0.keys = ap (λ (es : List (ℕ × ℕ)). length es) (sym begun) ∙ zip-count s0.keys t0.keys pair0.count in
+      zip-begins s.keys t.keys s0.keys t0.keys pair.count pair0.count
+      (ap (take (length s0.keys)) edges ∙ ap (λ (n : ℕ). take n g.edges) (sym count) ∙ e ∙ sym begun)
 
   pub viewed-take : (n : ℕ) → digraph_of (record s { keys = take n s.keys }) (record t { keys = take n t.keys }) ≡ record g { edges = take n g.edges }
   viewed-take n =

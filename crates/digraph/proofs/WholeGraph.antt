@@ -1,14 +1,13 @@
 -- One edge more, and one less, in all arrays of a graph.
-use Rattle.std.proofs.Common.{◌≡◌, ◌∙◌, ℕ, ◌+◌, ◌-◌, ◌*◌, ◌<◌, ◌≤◌, ◌^◌, List, [], ◌∷◌, ◌++◌, length, get_or, set, take, min, eqb, refl, sym, ap, subst, arith}
+use Rattle.std.proofs.Common.{◌≡◌, ◌∙◌, ℕ, ◌+◌, ◌-◌, ◌*◌, ◌<◌, ◌≤◌, List, [], ◌∷◌, ◌++◌, length, get_or, set, take, map, min, refl, sym, ap, subst, arith}
 use Rattle.std.specs.List.{zip}
 use Rattle.std.specs.Prelude.{replicate}
-use Rattle.std.proofs.lemmas.List.{length-append, length-take-le, take_all, take_more}
-use Rattle.std.proofs.lemmas.List.Sums.{count_by-le-length}
-use Rattle.digraph.specs.AtHand.{HasNear, HasDegrees}
+use Rattle.std.proofs.lemmas.List.{length-append, length-map, length-take-le, take_all, take_more}
+use Rattle.digraph.specs.AtHand.{AreAtHand, HasNear}
 use Rattle.digraph.specs.Digraph.{in_degree, out_degree, source_of, target_of}
-use Rattle.digraph.specs.KeyList.{KeyList, IsKeyList, ArePaired, IsGraph}
-use Rattle.digraph.proofs.AtHand.{near-begin, near-pop, near-push, degrees-begin, degrees-set, in-push_other, in-push_same, out-push_other, out-push_same}
-use Rattle.digraph.proofs.Ends.{zip-count, zip-push, zip-source, zip-take, zip-target}
+use Rattle.digraph.specs.KeyList.{KeyList, IsKeyList, IsGraph}
+use Rattle.digraph.proofs.AtHand.{at_hand-push, near-begin, near-pop, degrees-begin, degrees-set, in-push_other, in-push_same, out-push_other, out-push_same}
+use Rattle.digraph.proofs.Ends.{zip-count, zip-push, zip-push_all, zip-source, zip-take, zip-target}
 
 -- no edge yet
 module _ (n room : ℕ) where
@@ -26,36 +25,18 @@ module _ (n room : ℕ) where
           room = refl;
           count = refl;
         };
-        near = near-begin n;
-        outs = degrees-begin n (out_degree []) (λ m. refl);
-        ins = degrees-begin n (in_degree []) (λ m. refl);
+        at_hand = record {
+          near = near-begin n;
+          outs = degrees-begin n (out_degree []) (λ m. refl);
+          ins = degrees-begin n (in_degree []) (λ m. refl);
+        };
       })
 
 -- an edge more
 module _ (s t : KeyList) (near outs ins : List ℕ) (g : IsGraph s t near outs ins) (a b : ℕ) (from : a < s.kinds) (to : b < s.kinds) where
-  es : List (ℕ × ℕ)
-  es = zip s.keys t.keys
-
-  pub outs-room : (before : ℕ) → before ≡ get_or outs a 0 → before ≤ length s.keys
-  outs-room before is =
-      let at = g.outs.at a from in
-      let most = count_by-le-length (λ (e : ℕ × ℕ). eqb e.0 a) (zip s.keys t.keys) in
-      let count = zip-count s.keys t.keys g.paired.count in
-      omega (arith, is, at, most, count)
-
-  pub ins-room : (before : ℕ) → before ≡ get_or ins b 0 → before ≤ length s.keys
-  ins-room before is =
-      let at = g.ins.at b to in
-      let most = count_by-le-length (λ (e : ℕ × ℕ). eqb e.1 b) (zip s.keys t.keys) in
-      let count = zip-count s.keys t.keys g.paired.count in
-      omega (arith, is, at, most, count)
-
   pub graph-push : (s' t' : KeyList) → s' ≡ record s { keys = s.keys ++ a ∷ [] } → t' ≡ record t { keys = t.keys ++ b ∷ [] } → IsKeyList s' → IsKeyList t' →
-      (out in_ : ℕ) → out ≡ get_or outs a 0 → in_ ≡ get_or ins b 0 →
-      IsGraph s' t' (set near (4 * a + min out 3) b) (set outs a (out + 1)) (set ins b (in_ + 1))
-  graph-push s' t' more_s more_t sound_s sound_t out in_ is_out is_in =
-      let degree : out ≡ out_degree (zip s.keys t.keys) a = is_out ∙ g.outs.at a from in
-      let into : in_ ≡ in_degree (zip s.keys t.keys) b = is_in ∙ g.ins.at b to in
+      IsGraph s' t' (set near (4 * a + min (get_or outs a 0) 3) b) (set outs a (get_or outs a 0 + 1)) (set ins b (get_or ins b 0 + 1))
+  graph-push s' t' more_s more_t sound_s sound_t =
       let count = g.paired.count in
       let long_s = length-append s.keys (a ∷ []) in
       let long_t = length-append t.keys (b ∷ []) in
@@ -67,11 +48,7 @@ module _ (s t : KeyList) (near outs ins : List ℕ) (g : IsGraph s t near outs i
           room = g.paired.room;
           count = omega (arith, count, long_s, long_t);
         };
-        near = rw (zip-push s.keys t.keys a b g.paired.count, degree) (near-push s.kinds (zip s.keys t.keys) a b near from g.near);
-        outs = rw (zip-push s.keys t.keys a b g.paired.count) (degrees-set s.kinds (out_degree (zip s.keys t.keys)) (out_degree (zip s.keys t.keys ++ (a, b) ∷ [])) outs a from
-            (out-push_other (zip s.keys t.keys) a b) (out + 1) (let same = out-push_same (zip s.keys t.keys) a b in omega (arith, same, degree)) g.outs);
-        ins = rw (zip-push s.keys t.keys a b g.paired.count) (degrees-set s.kinds (in_degree (zip s.keys t.keys)) (in_degree (zip s.keys t.keys ++ (a, b) ∷ [])) ins b to
-            (in-push_other (zip s.keys t.keys) a b) (in_ + 1) (let same = in-push_same (zip s.keys t.keys) a b in omega (arith, same, into)) g.ins);
+        at_hand = rw (zip-push s.keys t.keys a b g.paired.count) (at_hand-push s.kinds (zip s.keys t.keys) near outs ins g.at_hand a b from to);
       })
 
 -- an edge less
@@ -98,10 +75,10 @@ module _ (s t : KeyList) (near outs ins : List ℕ) (g : IsGraph s t near outs i
   in-more = ap (λ (es : List (ℕ × ℕ)). in_degree es b) split ∙ in-push_same (zip (take k s.keys) (take k t.keys)) a b
 
   pub out-some : (out : ℕ) → out ≡ get_or outs a 0 → 1 ≤ out
-  out-some out is = let at = g.outs.at a from in let more = out-more in omega (arith, is, at, more)
+  out-some out is = let at = g.at_hand.outs.at a from in let more = out-more in omega (arith, is, at, more)
 
   pub in-some : (in_ : ℕ) → in_ ≡ get_or ins b 0 → 1 ≤ in_
-  in-some in_ is = let at = g.ins.at b to in let more = in-more in omega (arith, is, at, more)
+  in-some in_ is = let at = g.at_hand.ins.at b to in let more = in-more in omega (arith, is, at, more)
 
   pub graph-pop : (s' t' : KeyList) → s' ≡ record s { keys = take k s.keys } → t' ≡ record t { keys = take k t.keys } → IsKeyList s' → IsKeyList t' →
       (out in_ : ℕ) → out ≡ get_or outs a 0 → in_ ≡ get_or ins b 0 →
@@ -109,8 +86,8 @@ module _ (s t : KeyList) (near outs ins : List ℕ) (g : IsGraph s t near outs i
   graph-pop s' t' less_s less_t sound_s sound_t out in_ is_out is_in =
       let more = out-more in
       let more_in = in-more in
-      let at = g.outs.at a from in
-      let at_in = g.ins.at b to in
+      let at = g.at_hand.outs.at a from in
+      let at_in = g.at_hand.ins.at b to in
       let degree : out - 1 ≡ out_degree (zip (take k s.keys) (take k t.keys)) a = omega (arith, more, at, is_out) in
       let into : in_ - 1 ≡ in_degree (zip (take k s.keys) (take k t.keys)) b = omega (arith, more_in, at_in, is_in) in
       let count = g.paired.count in
@@ -124,10 +101,48 @@ module _ (s t : KeyList) (near outs ins : List ℕ) (g : IsGraph s t near outs i
           room = g.paired.room;
           count = omega (arith, long_s, long_t);
         };
-        near = subst (λ (d : ℕ). HasNear s.kinds (zip (take k s.keys) (take k t.keys)) (set near (4 * a + min d 3) s.kinds)) (sym degree)
-            (near-pop s.kinds (zip (take k s.keys) (take k t.keys)) a b near from (subst (λ (es : List (ℕ × ℕ)). HasNear s.kinds es near) split g.near));
-        outs = degrees-set s.kinds (out_degree (zip s.keys t.keys)) (out_degree (zip (take k s.keys) (take k t.keys))) outs a from
-            (λ m other. sym (ap (λ (es : List (ℕ × ℕ)). out_degree es m) split ∙ out-push_other (zip (take k s.keys) (take k t.keys)) a b m other)) (out - 1) degree g.outs;
-        ins = degrees-set s.kinds (in_degree (zip s.keys t.keys)) (in_degree (zip (take k s.keys) (take k t.keys))) ins b to
-            (λ m other. sym (ap (λ (es : List (ℕ × ℕ)). in_degree es m) split ∙ in-push_other (zip (take k s.keys) (take k t.keys)) a b m other)) (in_ - 1) into g.ins;
+        at_hand = record {
+          near = subst (λ (d : ℕ). HasNear s.kinds (zip (take k s.keys) (take k t.keys)) (set near (4 * a + min d 3) s.kinds)) (sym degree)
+              (near-pop s.kinds (zip (take k s.keys) (take k t.keys)) a b near from (subst (λ (es : List (ℕ × ℕ)). HasNear s.kinds es near) split g.at_hand.near));
+          outs = degrees-set s.kinds (out_degree (zip s.keys t.keys)) (out_degree (zip (take k s.keys) (take k t.keys))) outs a from
+              (λ m other. sym (ap (λ (es : List (ℕ × ℕ)). out_degree es m) split ∙ out-push_other (zip (take k s.keys) (take k t.keys)) a b m other)) (out - 1) degree g.at_hand.outs;
+          ins = degrees-set s.kinds (in_degree (zip s.keys t.keys)) (in_degree (zip (take k s.keys) (take k t.keys))) ins b to
+              (λ m other. sym (ap (λ (es : List (ℕ × ℕ)). in_degree es m) split ∙ in-push_other (zip (take k s.keys) (take k t.keys)) a b m other)) (in_ - 1) into g.at_hand.ins;
+        };
+      })
+
+-- more edges
+module _ (s t : KeyList) (near outs ins : List ℕ) (g : IsGraph s t near outs ins) (es : List (ℕ × ℕ)) where
+  pub graph-push_all : (s' t' : KeyList) → s' ≡ record s { keys = s.keys ++ map (λ e. e.0) es } → t' ≡ record t { keys = t.keys ++ map (λ e. e.1) es } → IsKeyList s' → IsKeyList t' →
+      (near' outs' ins' : List ℕ) → AreAtHand s.kinds (zip s.keys t.keys ++ es) near' outs' ins' → IsGraph s' t' near' outs' ins'
+  graph-push_all s' t' more_s more_t sound_s sound_t near' outs' ins' at_hand =
+      let count = g.paired.count in
+      let long_s = length-append s.keys (map (λ (e : ℕ × ℕ). e.0) es) in
+      let long_t = length-append t.keys (map (λ (e : ℕ × ℕ). e.1) es) in
+      let sources = length-map es (λ (e : ℕ × ℕ). e.0) in
+      let targets = length-map es (λ (e : ℕ × ℕ). e.1) in
+      rw (more_s, more_t) (record {
+        paired = record {
+          sound_sources = subst IsKeyList more_s sound_s;
+          sound_targets = subst IsKeyList more_t sound_t;
+          kinds = g.paired.kinds;
+          room = g.paired.room;
+          count = omega (arith, count, long_s, long_t, sources, targets);
+        };
+        at_hand = rw (zip-push_all s.keys t.keys es g.paired.count) at_hand;
+      })
+
+-- the edges of another graph, with which this one begins
+module _ (s t : KeyList) (near outs ins : List ℕ) (g : IsGraph s t near outs ins) (s0 t0 : KeyList) (near0 outs0 ins0 : List ℕ) (g0 : IsGraph s0 t0 near0 outs0 ins0) (kinds : s0.kinds ≡ s.kinds) where
+  pub graph-begun : (s' t' : KeyList) → s' ≡ record s { keys = s0.keys } → t' ≡ record t { keys = t0.keys } → IsKeyList s' → IsKeyList t' → IsGraph s' t' near0 outs0 ins0
+  graph-begun s' t' less_s less_t sound_s sound_t =
+      rw (less_s, less_t) (record {
+        paired = record {
+          sound_sources = subst IsKeyList less_s sound_s;
+          sound_targets = subst IsKeyList less_t sound_t;
+          kinds = g.paired.kinds;
+          room = g.paired.room;
+          count = g0.paired.count;
+        };
+        at_hand = rw (sym kinds) g0.at_hand;
       })

@@ -2,6 +2,7 @@
 //! Nothing but a `with_room` takes memory.
 #![tactic(auto)]
 
+mod at_hand;
 mod edge_list;
 mod edge_test;
 mod linked_graph;
@@ -9,9 +10,10 @@ mod links;
 mod node_list;
 mod step_count;
 
+pub use at_hand::NEAR;
 pub use edge_list::Edges;
 pub use edge_test::Pairs;
-pub use linked_graph::{Graph, NEAR};
+pub use linked_graph::Graph;
 pub use node_list::Nodes;
 pub use step_count::Steps;
 

@@ -2,6 +2,7 @@
 ghost use Rattle.std.specs.Prelude.{◌≡◌, ℕ, ◌+◌, ◌-◌, ◌*◌, ◌<◌, ◌≤◌, [], ◌∷◌, ◌++◌, length, slice_index, slice_index_or, take, min, All, IfOk, is_some, if◌then◌else◌};
 ghost use Rattle.digraph.specs.Digraph.{IsDigraph, IsLastIn, IsLastOut, in_degree, out_degree, source_of, target_of, targets_from};
 
+use crate::at_hand::{NEAR, count_edge, count_edges, near_place};
 use crate::links::Links;
 use crate::step_count::Steps;
 use std::alloc::{AllocError, Global};
@@ -19,16 +20,6 @@ pub struct Graph {
     near: Vec<u32>,
     out_degrees: Vec<u32>,
     in_degrees: Vec<u32>,
-}
-
-/// So many targets of a node are at hand.
-pub const NEAR: usize = 3;
-
-/// The place for the target of an edge from the node, with so many edges before it.
-fn near_place(node: u32, before: u32) -> usize
-    ensures { result ≡ 4 * node + min before 3 }
-{
-    4 * node as usize + usize::min(before as usize, NEAR)
 }
 
 impl Model for Graph {
@@ -71,10 +62,13 @@ impl Graph {
         requires to { to < self.old.nodes }
         ensures { self.new ≡ record self.old { edges = self.old.edges ++ (from, to) ∷ [] } }
     {
-        let before = self.out_degrees[from as usize];
-        self.near[near_place(from, before)] = to;
-        self.out_degrees[from as usize] = before + 1;
-        self.in_degrees[to as usize] += 1;
+        count_edge(
+            from,
+            to,
+            &mut self.near,
+            &mut self.out_degrees,
+            &mut self.in_degrees,
+        );
         self.sources.push(from);
         self.targets.push(to);
     }
@@ -111,10 +105,13 @@ impl Graph {
         requires room { length self.old.edges + length edges.now ≤ self.old.room }
         ensures { self.new ≡ record self.old { edges = self.old.edges ++ edges.now } }
     {
-        for edge in edges {
-            let (from, to) = *edge;
-            self.add(from, to);
-        }
+        count_edges(
+            edges,
+            &mut self.near,
+            &mut self.out_degrees,
+            &mut self.in_degrees,
+        );
+        Links::push_ends(&mut self.sources, &mut self.targets, edges);
     }
 
     /// Takes the last added edges away until those of `start` are left, with which the graph begins. The time is that of the nodes.
@@ -123,7 +120,11 @@ impl Graph {
         requires begins { take (length start.now.edges) self.old.edges ≡ start.now.edges }
         ensures { self.new ≡ record self.old { edges = start.now.edges } }
     {
-        self.truncate(start.edges());
+        self.sources.truncate_to(&start.sources);
+        self.targets.truncate_to(&start.targets);
+        self.near.copy_from_slice(&start.near);
+        self.out_degrees.copy_from_slice(&start.out_degrees);
+        self.in_degrees.copy_from_slice(&start.in_degrees);
     }
 
     /// The number of nodes.

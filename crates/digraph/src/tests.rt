@@ -156,3 +156,21 @@ fn sources_without_a_mark_get_one(rt: HostRuntime) {
     Ring(3).mark_sources(0, 9, &mut marks);
     assert_eq!(rt; marks, [9, 0, 4]);
 }
+
+#[test]
+fn edges_are_added_together_and_taken_away_together(rt: HostRuntime) -> Result<(), Fail> {
+    let mut start = Graph::with_room(rt.alloc(), 3, 2)?;
+    start.add(0, 1);
+    start.add(1, 2);
+    let mut graph = small(rt.alloc())?;
+    graph.truncate_to(&start);
+    assert_eq!(rt; graph.edges(), 2);
+    assert_eq!(rt; reads(&graph, 0, 1), [Some(0), None, None, None]);
+    assert_eq!(rt; graph.in_degrees(), [0, 1, 1].as_slice());
+    graph.add_all(&[(2, 1), (0, 1), (2, 0)]);
+    assert_eq!(rt; (graph.source(4), graph.target(4)), (2, 0));
+    assert_eq!(rt; reads(&graph, 2, 3), [Some(4), Some(0), Some(1), Some(2)]);
+    assert_eq!(rt; graph.in_degrees(), [1, 3, 1].as_slice());
+    assert_eq!(rt; (graph.out_degree(0), graph.out_degree(2)), (2, 2));
+    Ok(())
+}

@@ -1,8 +1,7 @@
 -- The last edge goes from both ends, and from what is at hand.
-use Rattle.std.proofs.Common.{◌≡◌, ◌∙◌, ℕ, ◌+◌, ◌-◌, ◌<◌, List, length, get_or, take, ap, subst, sym, arith}
+use Rattle.std.proofs.Common.{◌≡◌, ◌∙◌, ℕ, ◌-◌, length, get_or, take, ap, sym, arith}
 use Rattle.std.proofs.lemmas.List.{get_or_default}
 use Rattle.digraph.specs.Digraph.{Digraph}
-use Rattle.digraph.specs.KeyList.{KeyList}
 use Rattle.digraph.proofs.Viewed.{viewed-count, viewed-take}
 use Rattle.digraph.proofs.WholeGraph.{out-some, in-some, graph-pop}
 use Rattle.digraph.proofs.linked_graph.Graph.pop.Goals as goal
@@ -13,7 +12,7 @@ overflow_sub-before c =
     let count = viewed-count c.self.inside.sources c.self.inside.targets g.paired c.args.self.now c.self.view_is in
     let same = g.paired.count in
     let kinds = g.paired.kinds in
-    let long = g.outs.long in
+    let long = g.at_hand.outs.long in
     let from = c.pop-from.ensures.inside in
     let to = c.pop-to.ensures.inside in
     let k : ℕ = length c.self.inside.sources.keys - 1 in
@@ -28,7 +27,7 @@ overflow_sub-index_mut c =
     let count = viewed-count c.self.inside.sources c.self.inside.targets g.paired c.args.self.now c.self.view_is in
     let same = g.paired.count in
     let kinds = g.paired.kinds in
-    let long = g.ins.long in
+    let long = g.at_hand.ins.long in
     let from = c.pop-from.ensures.inside in
     let to = c.pop-to.ensures.inside in
     let k : ℕ = length c.self.inside.sources.keys - 1 in
@@ -43,8 +42,8 @@ invariant_of-self c =
     let count = viewed-count c.self.inside.sources c.self.inside.targets g.paired c.args.self.now c.self.view_is in
     let same = g.paired.count in
     let kinds = g.paired.kinds in
-    let long = g.outs.long in
-    let long_in = g.ins.long in
+    let long = g.at_hand.outs.long in
+    let long_in = g.at_hand.ins.long in
     let from = c.pop-from.ensures.inside in
     let to = c.pop-to.ensures.inside in
     let k : ℕ = length c.self.inside.sources.keys - 1 in

@@ -1,4 +1,3 @@
-use Rattle.std.proofs.Common.{refl}
 use Rattle.digraph.proofs.WholeGraph.{graph-begin}
 use Rattle.digraph.proofs.linked_graph.Graph.with_room.Goals as goal
 

@@ -1,4 +1,4 @@
-use Rattle.std.proofs.Common.{◌≡◌, ◌<◌, ◌∙◌, ℕ, ap, length, sym, subst, arith}
+use Rattle.std.proofs.Common.{ap, length, arith}
 use Rattle.std.proofs.lemmas.List.{length-map, length-take}
 use Rattle.digraph.specs.declared.links.Link.{Link}
 use Rattle.digraph.specs.KeyList.{KeyList}

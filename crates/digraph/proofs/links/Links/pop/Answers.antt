@@ -1,6 +1,6 @@
 -- The last key's place is that of the key before it again.
-use Rattle.std.proofs.Common.{◌≡◌, ◌<◌, ◌∙◌, ℕ, ◌+◌, ◌-◌, List, ap, get_or, length, set, sym, subst, arith}
-use Rattle.std.proofs.lemmas.List.{length-map, length-set, length-take}
+use Rattle.std.proofs.Common.{◌≡◌, ◌<◌, ℕ, ◌+◌, ◌-◌, List, ap, length, set, sym, subst, arith}
+use Rattle.std.proofs.lemmas.List.{length-map, length-take}
 use Rattle.digraph.specs.declared.links.Link.{Link}
 use Rattle.digraph.specs.KeyList.{KeyList, IsLinked}
 use Rattle.digraph.specs.LinkRows.{keys_of, previous_of}
