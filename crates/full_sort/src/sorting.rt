@@ -84,6 +84,7 @@ pub fn least_order_into<L: Ledger>(
     ensures room { scratch.new ≡ scratch.old }
     ensures ticks { OnTrue result (steps.new ≡ steps.old + length graph.now.edges) }
     ensures bound { steps.new ≤ steps.old + length graph.now.edges }
+    ensures later { steps.old ≤ steps.new }
 {
     // The prover is told that the ends of all edges are nodes, and how many there may be.
     let _edges = graph.edges();
