@@ -1,7 +1,7 @@
 //! Lists, graphs and sets of edges as a caller uses them.
 ghost use Rattle.std.specs.Prelude.{◌≡◌, ◌+◌, ◌%◌, ◌<◌, [], ◌∷◌, length, IfOk};
 
-use crate::{Edges, Graph, Nodes, Pairs, Steps};
+use crate::{Edges, Graph, NEAR, Nodes, Pairs, Steps};
 use std::alloc::{AllocError, Global};
 use std::marker::Brand;
 use std::sync::ledger::{Blank, Ledger};
@@ -107,6 +107,66 @@ fn the_last_added_edges_are_taken_away(rt: HostRuntime) -> Result<(), Fail> {
     assert_eq!(rt; graph.edges(), 0);
     graph.add(2, 0);
     assert_eq!(rt; reads(&graph, 2, 0), [Some(0), None, None, None]);
+    Ok(())
+}
+
+fn near_counted<L: Ledger>(graph: &Graph, node: u32, blank: Blank) -> [u32; NEAR]
+    requires node { node < graph.now.nodes }
+    requires name { blank.name ≡ L.name }
+    requires parts { blank.parts ≡ L.parts }
+    requires some { 0 < blank.parts }
+{
+    let mut steps = Steps::<L>::new(blank);
+    let near = graph.near_targets(node, &mut steps);
+    [near[0], near[1], near[2]]
+}
+
+/// The targets that are at hand.
+fn near(graph: &Graph, node: u32) -> [u32; NEAR]
+    requires { node < graph.now.nodes }
+{
+    near_counted::<Brand>(graph, node, Blank::new(1))
+}
+
+/// A graph of four nodes, from which no edge leads, two, three and five.
+/// One more from each was added last, and taken away.
+fn fanned(alloc: Global) -> Result<Graph, AllocError>
+    ensures { IfOk result (λ g. g.nodes ≡ 4) }
+{
+    let mut graph = Graph::with_room(alloc, 4, 14)?;
+    graph.add(3, 2);
+    graph.add(1, 2);
+    graph.add(3, 0);
+    graph.add(2, 3);
+    graph.add(3, 3);
+    graph.add(2, 1);
+    graph.add(1, 0);
+    graph.add(3, 0);
+    graph.add(2, 0);
+    graph.add(3, 2);
+    graph.add(2, 2);
+    graph.add(1, 3);
+    graph.add(0, 1);
+    graph.add(3, 1);
+    graph.truncate(10);
+    Ok(graph)
+}
+
+#[test]
+fn degrees_and_the_first_targets_are_at_hand(rt: HostRuntime) -> Result<(), Fail> {
+    let graph = fanned(rt.alloc())?;
+    assert_eq!(rt; graph.in_degrees(), [4, 1, 3, 2].as_slice());
+    let rows = [
+        (0, 0, [4, 4, 4]),
+        (1, 2, [2, 0, 4]),
+        (2, 3, [3, 1, 0]),
+        (3, 5, [2, 0, 3]),
+    ];
+    for (node, degree, targets) in rows {
+        assert!(rt; node < 4);
+        assert_eq!(rt; graph.out_degree(node), degree, "node {node}");
+        assert_eq!(rt; near(&graph, node), targets, "node {node}");
+    }
     Ok(())
 }
 

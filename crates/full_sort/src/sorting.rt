@@ -84,6 +84,7 @@ pub fn least_order_into<L: Ledger>(
     ensures room { scratch.new ≡ scratch.old }
     ensures ticks { OnTrue result (steps.new ≡ steps.old + length graph.now.edges) }
     ensures bound { steps.new ≤ steps.old + length graph.now.edges }
+    ensures later { steps.old ≤ steps.new }
 {
     // The prover is told that the ends of all edges are nodes, and how many there may be.
     let _edges = graph.edges();
@@ -122,16 +123,19 @@ pub fn window_order_into<L: Ledger>(
 {
     // The prover is told that the ends of all edges are nodes, and how many there may be.
     let _edges = graph.edges();
-    order_into(
+    let found = order_into(
         graph,
         window,
         &mut scratch.waiting,
         &mut scratch.marks,
         &mut scratch.ready,
         &mut scratch.placed,
-        order,
         steps,
-    )
+    );
+    if found {
+        order.copy_from_slice(&scratch.placed[..window.len()]);
+    }
+    found
 }
 
 /// The least node that lies on a cycle, if there is a cycle: the least from which an edge leads to a node

@@ -51,6 +51,7 @@ fn place_all<L: Ledger>(
     ensures room { length ready.new ≡ length ready.old }
     ensures ticks { result ≡ graph.now.nodes → steps.new ≡ steps.old + length graph.now.edges }
     ensures bound { steps.new ≤ steps.old + length graph.now.edges }
+    ensures later { steps.old ≤ steps.new }
 {
     // The prover is told that the ends of all edges are nodes.
     let _edges = graph.edges();
@@ -91,6 +92,7 @@ pub fn order_all_into<L: Ledger>(
     ensures placed { length placed.new ≡ length placed.old }
     ensures ticks { OnTrue result (steps.new ≡ steps.old + length graph.now.edges) }
     ensures bound { steps.new ≤ steps.old + length graph.now.edges }
+    ensures later { steps.old ≤ steps.new }
 {
     let nodes = graph.nodes() as usize;
     counts[..nodes].copy_from_slice(graph.in_degrees());

@@ -1,5 +1,5 @@
 //! The least order of a window.
-ghost use Rattle.std.specs.Prelude.{◌≡◌, ◌≢◌, ℕ, ◌+◌, ◌*◌, ◌<◌, ◌≤◌, ◌^◌, length, slice_index, All, AllPairs, Contains, true, false, None};
+ghost use Rattle.std.specs.Prelude.{◌≡◌, ◌≢◌, ℕ, ◌+◌, ◌*◌, ◌<◌, ◌≤◌, ◌^◌, length, slice_index, All, AllPairs, Contains, take, true, false, None};
 ghost use Rattle.std.specs.Bool.{OnTrue, OnFalse};
 ghost use Rattle.orders.specs.Orders.{IsLeastOrder, HasNoOrder};
 ghost use Rattle.digraph.specs.Digraph.{HasEdge, edges_out};
@@ -119,7 +119,7 @@ fn clean_up<L: Ledger>(
     }
 }
 
-/// Puts the least order of the window into `order`, and says whether there is one.
+/// Puts the least order of the window into the first places of `placed`, and says whether there is one.
 /// The arrays `waiting` and `marks` and the set are clean before and after; `placed` may hold anything.
 pub fn order_into<L: Ledger>(
     graph: &Graph,
@@ -128,7 +128,6 @@ pub fn order_into<L: Ledger>(
     marks: &mut [bool],
     ready: &mut NodeSet,
     placed: &mut [u32],
-    order: &mut [u32],
     steps: &mut Steps<L>,
 ) -> bool
     requires window { All (λ n. n < graph.now.nodes) window.now }
@@ -139,10 +138,9 @@ pub fn order_into<L: Ledger>(
     requires room { graph.now.nodes ≤ 64 * length ready.old }
     requires clean { IsClean waiting.old marks.old ready.old }
     requires placed { length window.now ≤ length placed.old }
-    requires order { length order.old ≡ length window.now }
-    ensures found { OnTrue result (IsLeastOrder (HasEdge graph.now.edges) window.now order.new) }
+    ensures found { OnTrue result (IsLeastOrder (HasEdge graph.now.edges) window.now
+        (take (length window.now) placed.new)) }
     ensures none { OnFalse result (HasNoOrder (HasEdge graph.now.edges) window.now) }
-    ensures unchanged { OnFalse result (order.new ≡ order.old) }
     ensures clean { IsClean waiting.new marks.new ready.new }
     ensures room { length ready.new ≡ length ready.old }
     ensures ticks { steps.new ≡ steps.old + 2 * edges_out graph.now.edges window.now }
@@ -151,9 +149,7 @@ pub fn order_into<L: Ledger>(
     find_free(window, waiting, marks, ready);
     let list = &mut placed[..window.len()];
     let found = place_window(graph, window, waiting, marks, ready, list, steps);
-    if found {
-        order.copy_from_slice(list);
-    } else {
+    if !found {
         clean_up(graph, window, waiting, marks, steps);
     }
     found

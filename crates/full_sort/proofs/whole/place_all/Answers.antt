@@ -40,6 +40,7 @@ loop-k-init g c =
       kept = tt;
       room = refl;
       ticked = ap (λ (xs : List ℕ). c.args.steps.now + sum_by (out_degree c.args.graph.now.edges) xs) (whole-marked nodes);
+      later = omega arith;
     }
 
 pub returns-in-None-clause-none : goal.returns-in-None-clause-none
@@ -139,6 +140,10 @@ loop-k-preserved g c =
           let more = sum-marked-less (out_degree es) marks window x (once-below nodes) least.0 least.1.1 below in
           let step = c.release_all-kept.ensures.ticks in
           rw (longer, cleared) (omega (arith, so_far, more, step));
+      later =
+          let so_far = c.loop-k.invariant.later in
+          let step = c.release_all-kept.ensures.ticks in
+          omega (arith, so_far, step);
     }
 
 pub returns-clause-found : goal.returns-clause-found

@@ -1,4 +1,4 @@
-use Rattle.std.proofs.Common.{◌≡◌, ℕ, ◌+◌, ◌<◌, get_or, take, length, All, true, false}
+use Rattle.std.proofs.Common.{◌≡◌, ℕ, ◌+◌, ◌<◌, ◌≤◌, get_or, take, length, All, true, false}
 use Rattle.std.specs.Prelude.{sum_by, replicate}
 use Rattle.orders.specs.Choices.{IsNext}
 use Rattle.orders.specs.Orders.{nodes_below}
@@ -20,4 +20,5 @@ invariant-loop-k g l = record {
   kept : HasRoom l.ready l.kept;
   room : length l.ready ≡ length l.fn.ready;
   ticked : l.steps + sum_by (out_degree l.graph.edges) (marked_of (without_marks (replicate l.graph.nodes true) (take l.k l.placed)) (nodes_below l.graph.nodes)) ≡ l.fn.steps + sum_by (out_degree l.graph.edges) (nodes_below l.graph.nodes);
+  later : l.fn.steps ≤ l.steps;
 }
