@@ -5,3 +5,4 @@ pub mod OwnBlocks
 pub mod Lookups
 pub mod RunLemmas
 pub mod CandidateLaws
+pub mod WordRows

@@ -20,14 +20,14 @@ use Rattle.test_lang.proofs.Ranks.{one_store, value_of-le}
 use Rattle.candidates.specs.declared.load_rows.LoadRow.{LoadRow}
 use Rattle.candidates.specs.Stores.{stores_to}
 use Rattle.candidates.specs.declared.store_lists.StoreRow.{StoreRow}
-use Rattle.candidates.specs.Reading.{found_place, list_place}
+use Rattle.candidates.specs.Reading.{found_place, table_place}
 use Rattle.candidates.proofs.StoreSteps.{stores_before-short}
-use Rattle.candidates.specs.Tables.{PlacesValue, Tabulates, TellsCandidates}
+use Rattle.candidates.specs.Tables.{PlacesValue, StandsBehind, Tabulates, TellsCandidates}
 use Rattle.candidates.specs.ByRank.{load_at}
 
 -- reads of parts of a list
 
-slice_get_right : {X : Type 0} (xs ys : List X) (n : ℕ) → slice_get (xs ++ ys) (length xs + n) ≡ slice_get ys n
+pub slice_get_right : {X : Type 0} (xs ys : List X) (n : ℕ) → slice_get (xs ++ ys) (length xs + n) ≡ slice_get ys n
 slice_get_right [] ys n = let same : 0 + n ≡ n = omega arith in ap (slice_get ys) same
 slice_get_right (x ∷ xs) ys n = let next : length (x ∷ xs) + n ≡ suc (length xs + n) = omega arith in ap (slice_get ((x ∷ xs) ++ ys)) next ∙ slice_get_right xs ys n
 
@@ -214,31 +214,39 @@ module _ (p : Program) (load : ℕ) (row : LoadRow) (t : TellsCandidates p load 
   pub at_base : (k : ℕ) → k ≡ 0 → slice_get cands k ≡ Some row.base
   at_base k e = ap (slice_get cands) e ∙ ap Some (sym t.base_is)
 
-  pub list_place-within : (k : ℕ) → 0 < k → k < length cands → list_place row k < length word_stores
-  list_place-within k some lt =
+  pub table_place-within : (k : ℕ) → k < length cands → table_place row k ≤ row.front + length word_stores
+  table_place-within k lt =
       let block = t.block in
       let within = t.within in
       let count = count_parts in
       ⊎_elim
-      (λ (back : row.own_from < k). let is : nat_le k row.own_from ≡ false = lt-leb k row.own_from back in rw is (omega (arith, block, count, lt, back)))
-      (λ (front : k ≤ row.own_from). let is : nat_le k row.own_from ≡ true = le-leb k row.own_from front in rw is (omega (arith, some, front, block, within)))
+      (λ (back : row.own_from < k). let is : nat_lt row.own_from k ≡ true = lt-ltb row.own_from k back in rw is (omega (arith, block, count, lt)))
+      (λ (front : k ≤ row.own_from). let is : nat_lt row.own_from k ≡ false = le-ltb row.own_from k front in rw is (omega (arith, front, block, within)))
       (cases_lt row.own_from k)
 
-  pub at_list_place : (k value : ℕ) → 0 < k → slice_get word_stores (list_place row k) ≡ Some value → slice_get cands k ≡ Some value
-  at_list_place k value some e =
+  pub at_table_place : (table : List ℕ) (k value : ℕ) → StandsBehind table row.front word_stores → 0 < k → k < length cands → slice_get table (table_place row k) ≡ Some value → slice_get cands k ≡ Some value
+  at_table_place table k value behind some lt e =
       let block = t.block in
+      let within = t.within in
+      let count = count_parts in
       ⊎_elim
       (λ (back : row.own_from < k).
-      let is : nat_le k row.own_from ≡ false = lt-leb k row.own_from back in
-      let there = k - 1 - row.own_from + row.own_to in
-      let place : list_place row k ≡ there = rw is refl in
-      let next : k ≡ there - skipped + 1 = omega (arith, block, back) in
-      ap (slice_get cands) next ∙ other_behind there (omega (arith, back)) ∙ ap (slice_get word_stores) (sym place) ∙ e)
+      let is : nat_lt row.own_from k ≡ true = lt-ltb row.own_from k back in
+      let there = k - 1 + skipped in
+      let place : row.front + 1 + there ≡ table_place row k = rw is (omega (arith, some)) in
+      let next : k ≡ there - skipped + 1 = omega (arith, some) in
+      ap (slice_get cands) next
+      ∙ other_behind there (omega (arith, back, block))
+      ∙ sym (behind.stands there (omega (arith, some, lt, count)))
+      ∙ ap (slice_get table) place ∙ e)
       (λ (front : k ≤ row.own_from).
-      let is : nat_le k row.own_from ≡ true = le-leb k row.own_from front in
-      let place : list_place row k ≡ k - 1 = rw is refl in
+      let is : nat_lt row.own_from k ≡ false = le-ltb row.own_from k front in
+      let place : row.front + 1 + (k - 1) ≡ table_place row k = rw is (omega (arith, some)) in
       let next : k ≡ k - 1 + 1 = omega (arith, some) in
-      ap (slice_get cands) next ∙ other_before (k - 1) (omega (arith, some, front)) ∙ ap (slice_get word_stores) (sym place) ∙ e)
+      ap (slice_get cands) next
+      ∙ other_before (k - 1) (omega (arith, some, front))
+      ∙ sym (behind.stands (k - 1) (omega (arith, some, front, block, within)))
+      ∙ ap (slice_get table) place ∙ e)
       (cases_lt row.own_from k)
 
   record StandsAt (j value : ℕ) : Type 0 where
@@ -367,20 +375,23 @@ finds_no_row p load row value t past =
 -- by the tables
 
 -- the tables of the test that contracts see
-pub tables_of : (q p : Program) (loads : List LoadRow) (stores : List StoreRow) (lists : List (List ℕ)) → q ≡ p → Tabulates q loads stores lists → Tabulates p loads stores lists
-tables_of q p loads stores lists same t = subst (λ r. Tabulates r loads stores lists) same t
+pub tables_of : (q p : Program) (loads : List LoadRow) (stores : List StoreRow) (table : List ℕ) → q ≡ p → Tabulates q loads stores table → Tabulates p loads stores table
+tables_of q p loads stores table same t = subst (λ r. Tabulates r loads stores table) same t
 
-module _ (p : Program) (loads : List LoadRow) (stores : List StoreRow) (lists : List (List ℕ)) (t : Tabulates p loads stores lists) where
+module _ (p : Program) (loads : List LoadRow) (stores : List StoreRow) (table : List ℕ) (t : Tabulates p loads stores table) where
   pub row_told : (rank : ℕ) (row : LoadRow) → rank < load_count p → row ≡ get_or loads rank row → TellsCandidates p (load_at p rank) row
   row_told rank row lt e = let one = t.one_load_each in t.loads_tell rank row (slice_get_read loads (load_count p) rank row (sym one) lt e)
 
+  pub row_behind : (rank : ℕ) (row : LoadRow) → rank < load_count p → row ≡ get_or loads rank row → StandsBehind table row.front (stores_to p row.word)
+  row_behind rank row lt e = let one = t.one_load_each in t.behind rank row (slice_get_read loads (load_count p) rank row (sym one) lt e)
+
   -- the row of the initial value
   initial_row : (value : ℕ) (store : StoreRow) → value ≡ 0 → slice_get stores value ≡ Some store → store ≡ record { word = p.words; place = 0 }
-  initial_row value store none e = same_Some store (record { word = p.words; place = 0 }) (sym e ∙ ap (slice_get stores) none ∙ t.stores_listed.initial)
+  initial_row value store none e = same_Some store (record { word = p.words; place = 0 }) (sym e ∙ ap (slice_get stores) none ∙ t.stores_placed.initial)
 
   pub value_told : (value : ℕ) (store : StoreRow) → slice_get stores value ≡ Some store → TellsValue p value store
   value_told value store e = record {
-    of_store = λ some. t.stores_listed.rows_place value store some e;
+    of_store = λ some. t.stores_placed.rows_place value store some e;
     of_none = λ none. ap (λ (r : StoreRow). r.word) (initial_row value store none e);
   }
 
@@ -390,22 +401,22 @@ module _ (p : Program) (loads : List LoadRow) (stores : List StoreRow) (lists : 
       let operations = t.limits.operations in
       ⊎_elim
       (λ (some : 0 < value).
-      let stands = slice_get_within (stores_to p store.word) store.place value (t.stores_listed.rows_place value store some e).stands in
+      let stands = slice_get_within (stores_to p store.word) store.place value (t.stores_placed.rows_place value store some e).stands in
       let short = stores_before-short p store.word (op_count p) in
       omega (arith, operations, stands, short))
       (λ (none : value ≤ 0). let place = ap (λ (r : StoreRow). r.place) (initial_row value store (omega (arith, none)) e) in omega (arith, place))
       (cases_lt 0 value)
 
 -- The place of a value, from the rows.
-pub finds_value : (p : Program) (loads : List LoadRow) (stores : List StoreRow) (lists : List (List ℕ)) (t : Tabulates p loads stores lists) (rank : ℕ) (row : LoadRow) (value : ℕ) (store : StoreRow) → rank < load_count p
+pub finds_value : (p : Program) (loads : List LoadRow) (stores : List StoreRow) (table : List ℕ) (t : Tabulates p loads stores table) (rank : ℕ) (row : LoadRow) (value : ℕ) (store : StoreRow) → rank < load_count p
     → row ≡ get_or loads rank row → slice_get stores value ≡ Some store → FindsPlace (candidates p (load_at p rank)) value (found_place row value store)
-finds_value p loads stores lists t rank row value store lt e is =
-    finds_by_rows p (load_at p rank) row value store (row_told p loads stores lists t rank row lt e) (value_told p loads stores lists t value store is)
+finds_value p loads stores table t rank row value store lt e is =
+    finds_by_rows p (load_at p rank) row value store (row_told p loads stores table t rank row lt e) (value_told p loads stores table t value store is)
 
 -- No row, no candidate.
-pub finds_nothing : (p : Program) (loads : List LoadRow) (stores : List StoreRow) (lists : List (List ℕ)) (t : Tabulates p loads stores lists) (rank value : ℕ) → rank < load_count p
+pub finds_nothing : (p : Program) (loads : List LoadRow) (stores : List StoreRow) (table : List ℕ) (t : Tabulates p loads stores table) (rank value : ℕ) → rank < load_count p
     → slice_get stores value ≡ None → FindsPlace (candidates p (load_at p rank)) value None
-finds_nothing p loads stores lists t rank value lt e =
+finds_nothing p loads stores table t rank value lt e =
     let one = t.one_load_each in
     let row = get_or loads rank no_row in
     let told = t.loads_tell rank row (slice_get-get_or loads rank no_row (omega (arith, one, lt))) in
@@ -414,7 +425,7 @@ finds_nothing p loads stores lists t rank value lt e =
     (λ (past : length stores ≤ value). let each = t.one_row_each in finds_no_row p (load_at p rank) row value told (omega (arith, each, past)))
     (cases_lt value (length stores)) where
       no_row : LoadRow
-      no_row = record { word = 0; base = 0; own_from = 0; own_to = 0; skips = []; count = 0 }
+      no_row = record { word = 0; front = 0; base = 0; own_from = 0; own_to = 0; skips = []; count = 0 }
 
       no_store : StoreRow
       no_store = record { word = 0; place = 0 }

@@ -1,13 +1,13 @@
 -- The blocks of a thread's stores, one node further, and the rows of its loads.
-use Rattle.std.proofs.Common.{◌≡◌, ◌∙◌, ℕ, ◌+◌, ◌-◌, ◌<◌, ◌≤◌, ◌⊎◌, List, [], ◌∷◌, ◌++◌, true, false, cond, map, take, drop, length, get_or, set, Option, None, Some, refl, ap, arith, sym, subst, inl, inr, ⊎_elim, length-append, add-one, Vec, Global, vec_len}
+use Rattle.std.proofs.Common.{◌≡◌, ◌∙◌, ℕ, ◌+◌, ◌-◌, ◌<◌, ◌≤◌, ◌⊎◌, List, [], ◌∷◌, ◌++◌, true, false, cond, map, take, drop, length, get_or, set, Option, None, Some, refl, ap, arith, sym, subst, inl, inr, ⊎_elim, length-append, add-one}
 use Rattle.std.specs.Prelude.{replicate, slice_get}
 use Rattle.std.specs.Option.{option_map}
 use Rattle.std.proofs.lemmas.Bool.{cases_eq, eq-eqb, ne_eqb}
-use Rattle.std.proofs.lemmas.List.{get_or-map, get_or-replicate, get_or-set_same, get_or-set_other, length-set, length-map, length-replicate}
+use Rattle.std.proofs.lemmas.List.{get_or-replicate, get_or-set_same, get_or-set_other, length-set, length-map, length-replicate}
 use Rattle.std.proofs.lemmas.Option.{get_or_from_slice_get, same_Some, slice_get-get_or, slice_get-map, slice_get_within}
 use Rattle.test_lang.specs.declared.op.Op.{Op}
 use Rattle.test_lang.specs.declared.op.Op.TheVariants.{Load, Store}
-use Rattle.test_lang.specs.Program.{Program, nodes, op_at, op_count, first_node, thread_length}
+use Rattle.test_lang.specs.Program.{Program, nodes, op_at, first_node, thread_length}
 use Rattle.test_lang.specs.Values.{is_load, is_load_at, is_store, load_nodes, rank_of, value_of}
 use Rattle.test_lang.proofs.Nodes.{node_at, is_load_at-op}
 use Rattle.test_lang.proofs.Places.{load_node, passing, passing-suc, slice_get_cases_end}
@@ -15,10 +15,9 @@ use Rattle.test_lang.proofs.Ranks.{load_nodes-rank_of}
 use Rattle.test_lang.proofs.Threads.{StandsIn, stands-thread_at}
 use Rattle.candidates.specs.declared.load_rows.LoadRow.{LoadRow}
 use Rattle.candidates.specs.declared.load_rows.OwnStores.{OwnStores}
-use Rattle.candidates.specs.declared.store_lists.StoreRow.{StoreRow}
 use Rattle.candidates.specs.ByRank.{load_at}
 use Rattle.candidates.specs.Stores.{stores_before, stores_to, last_own}
-use Rattle.candidates.specs.Tables.{ListsStores, TellsBlock, TellsBlocks, TellsCandidates, TellsLoads}
+use Rattle.candidates.specs.Tables.{StandsBehind, TellsBlock, TellsBlocks, TellsCandidates, TellsLoads}
 use Rattle.candidates.proofs.LoadCandidates.{base-is, others-block, own_block, count-block, last_own-first, last_own-same, last_own-store}
 use Rattle.candidates.proofs.StoreSteps.{no_store_to, stores_before_same, stores_before_push}
 
@@ -140,28 +139,30 @@ module _ (p : Program) (t n : ℕ) where
 
   -- rows
 
-  pub loads_other : (op : Op) (rows : List LoadRow) → slice_get (nodes p) n ≡ Some (t, op) → is_load op ≡ false → TellsLoads p n rows → TellsLoads p (n + 1) rows
-  loads_other op rows e fails l = record {
+  pub loads_other : (op : Op) (table : List ℕ) (rows : List LoadRow) → slice_get (nodes p) n ≡ Some (t, op) → is_load op ≡ false → TellsLoads p table n rows → TellsLoads p table (n + 1) rows
+  loads_other op table rows e fails l = record {
     one_row_each =
         let one = l.one_row_each in
         let more = ap (passing load_node (nodes p)) (add-one n) ∙ passing-suc load_node (nodes p) n (t, op) e in
         let none = ap (λ b. cond {A = ℕ} b 1 0) fails in
         omega (arith, one, more, none);
     rows_tell = l.rows_tell;
+    behind = l.behind;
   }
 
   -- the row of the node
-  pub record IsRow (x : ℕ) (stores : OwnStores) (row : LoadRow) : Type 0 where
+  pub record IsRow (x front : ℕ) (stores : OwnStores) (row : LoadRow) : Type 0 where
     pub word_is : row.word ≡ x
+    pub front_is : row.front ≡ front
     pub base_is : row.base ≡ stores.last
     pub from_is : row.own_from ≡ stores.from
     pub to_is : row.own_to ≡ stores.to
     pub skips_are : row.skips ≡ 0 ∷ (stores.to - stores.from) ∷ []
     pub count_is : row.count ≡ length (stores_to p x) - (stores.to - stores.from) + 1
 
-  tells : (x : ℕ) (stores : OwnStores) (row : LoadRow) → slice_get (nodes p) n ≡ Some (t, Load x) → x < p.words → TellsBlock p t x (first_node p t + thread_length p t) n stores → IsRow x stores row
+  tells : (x front : ℕ) (stores : OwnStores) (row : LoadRow) → slice_get (nodes p) n ≡ Some (t, Load x) → x < p.words → TellsBlock p t x (first_node p t + thread_length p t) n stores → IsRow x front stores row
       → TellsCandidates p n row
-  tells x stores row e lt b i =
+  tells x front stores row e lt b i =
       let word_is = i.word_is in
       let from_is = i.from_is in
       let to_is = i.to_is in
@@ -187,9 +188,14 @@ module _ (p : Program) (t n : ℕ) where
         count_is = omega (arith, count_is, from, to, from_to, to_all, count);
       }
 
-  pub loads_load : (x : ℕ) (stores : OwnStores) (row : LoadRow) (rows : List LoadRow) → slice_get (nodes p) n ≡ Some (t, Load x) → x < p.words
-      → TellsBlock p t x (first_node p t + thread_length p t) n stores → IsRow x stores row → TellsLoads p n rows → TellsLoads p (n + 1) (rows ++ row ∷ [])
-  loads_load x stores row rows e lt b i l =
+  -- where the stores to its word stand
+  stands : (x front : ℕ) (table : List ℕ) (stores : OwnStores) (row : LoadRow) → StandsBehind table front (stores_to p x) → IsRow x front stores row → StandsBehind table row.front (stores_to p row.word)
+  stands x front table stores row h i =
+      subst (λ (w : ℕ). StandsBehind table row.front (stores_to p w)) (sym i.word_is) (subst (λ (f : ℕ). StandsBehind table f (stores_to p x)) (sym i.front_is) h)
+
+  pub loads_load : (x front : ℕ) (table : List ℕ) (stores : OwnStores) (row : LoadRow) (rows : List LoadRow) → slice_get (nodes p) n ≡ Some (t, Load x) → x < p.words
+      → TellsBlock p t x (first_node p t + thread_length p t) n stores → StandsBehind table front (stores_to p x) → IsRow x front stores row → TellsLoads p table n rows → TellsLoads p table (n + 1) (rows ++ row ∷ [])
+  loads_load x front table stores row rows e lt b h i l =
       let one = l.one_row_each in
       record {
         one_row_each =
@@ -202,7 +208,12 @@ module _ (p : Program) (t n : ℕ) where
             (λ (last : (k ≡ length rows) × (row ≡ found)).
             let loads : is_load_at p n ≡ true = is_load_at-op p n (Load x) (ap (option_map (λ node. node.1)) e) in
             let here : load_at p k ≡ n = ap (λ r. load_at p r) (last.0 ∙ one) ∙ get_or_from_slice_get (load_nodes p) (rank_of p n) n 0 (load_nodes-rank_of p n loads) in
-            subst (λ (m : ℕ). TellsCandidates p m found) (sym here) (subst (λ (r : LoadRow). TellsCandidates p n r) last.1 (tells x stores row e lt b i)))
+            subst (λ (m : ℕ). TellsCandidates p m found) (sym here) (subst (λ (r : LoadRow). TellsCandidates p n r) last.1 (tells x front stores row e lt b i)))
+            (slice_get_cases_end rows row k found is);
+        behind = λ k found is.
+            ⊎_elim
+            (λ (before : slice_get rows k ≡ Some found). l.behind k found before)
+            (λ (last : (k ≡ length rows) × (row ≡ found)). subst (λ (r : LoadRow). StandsBehind table r.front (stores_to p r.word)) last.1 (stands x front table stores row h i))
             (slice_get_cases_end rows row k found is);
       }
 
@@ -216,21 +227,6 @@ block_order p t n x stores e b =
     let from = b.from_is in
     let to = b.to_is in
     (omega (arith, from, to, from_to), omega (arith, to, to_all))
-
--- the list of a word
-pub list_items : (p : Program) (rows : List StoreRow) (lists : List (Vec ℕ Global)) (list : Vec ℕ Global) (x : ℕ) → ListsStores p (op_count p) rows (map (λ l. l.items) lists) → x < p.words
-    → list ≡ get_or lists x list → list.items ≡ stores_to p x
-list_items p rows lists list x listed lt here =
-    let long = length-map {A = Vec ℕ Global} {B = List ℕ} lists (λ l. l.items) in
-    let one = listed.one_list_each in
-    ap (λ (l : Vec ℕ Global). l.items) here
-    ∙ sym (get_or-map {X = Vec ℕ Global} {Y = List ℕ} (λ l. l.items) lists x list [] (omega (arith, long, one, lt)))
-    ∙ get_or_from_slice_get (map (λ l. l.items) lists) x (stores_to p x) [] (listed.lists_are x lt)
-
--- its length
-pub list_length : (p : Program) (rows : List StoreRow) (lists : List (Vec ℕ Global)) (list : Vec ℕ Global) (x count : ℕ) → ListsStores p (op_count p) rows (map (λ l. l.items) lists) → x < p.words
-    → list ≡ get_or lists x list → count ≡ vec_len list → count ≡ length (stores_to p x)
-list_length p rows lists list x count listed lt here is = is ∙ list.ok.0 ∙ ap length (list_items p rows lists list x listed lt here)
 
 -- a node of a loop over the nodes of a thread
 pub stands_in : (p : Program) (t n first len : ℕ) → t < length p.threads → first ≡ first_node p t → len ≡ thread_length p t → first ≤ n → n < first + len → StandsIn p t n
@@ -248,5 +244,9 @@ counts_none p own none to_0 e = record {
       ap (λ (s : OwnStores). s.to) same ∙ to_0;
 }
 
-pub loads_none : (p : Program) (rows : List LoadRow) → rows ≡ [] → TellsLoads p 0 rows
-loads_none p rows e = record { one_row_each = ap length e; rows_tell = λ rank row is. let none = ap (λ xs. slice_get xs rank) e in absurd (cc (is, none)) }
+pub loads_none : (p : Program) (table : List ℕ) (rows : List LoadRow) → rows ≡ [] → TellsLoads p table 0 rows
+loads_none p table rows e = record {
+  one_row_each = ap length e;
+  rows_tell = λ rank row is. let none = ap (λ xs. slice_get xs rank) e in absurd (cc (is, none));
+  behind = λ rank row is. let none = ap (λ xs. slice_get xs rank) e in absurd (cc (is, none));
+}

@@ -60,8 +60,10 @@ pub lists_other : (p : Program) (n t : ℕ) (op : Op) (rows : List StoreRow) (li
 lists_other p n t op rows lists e fails l = record {
   one_list_each = l.one_list_each;
   lists_are = λ x lt. l.lists_are x lt ∙ ap Some (sym (stores_before_same p x n t op e (no_store_to x op fails)));
-  initial = l.initial;
-  rows_place = λ value row some found. places_still p n t op value row e (l.rows_place value row some found);
+  placed = record {
+    initial = l.placed.initial;
+    rows_place = λ value row some found. places_still p n t op value row e (l.placed.rows_place value row some found);
+  };
 }
 
 -- the row of a store that is listed next
@@ -95,19 +97,21 @@ lists_store p n t x rows lists row e lt next l =
           ∙ get_or_from_slice_get lists y (stores_before p y n) [] (l.lists_are y y_lt)
           ∙ sym (stores_before_same p y n t (Store x) e (ne_eqb y x other)))
           (cases_eq y x));
-      initial = slice_get-append_left rows (row ∷ []) 0 (record { word = p.words; place = 0 }) l.initial;
-      rows_place = λ value found some is.
-          ⊎_elim
-          (λ (before : slice_get rows value ≡ Some found). places_still p n t (Store x) value found e (l.rows_place value found some before))
-          (λ (last : (value ≡ length rows) × (row ≡ found)).
-          let place : row.place ≡ length (stores_before p x n) = next.at_end ∙ ap length is_old in
-          let same : value_of p n ≡ value = sym (last.0 ∙ next.has_value) in
-          subst (λ (r : StoreRow). PlacesValue p (suc n) value r) last.1 (record {
-            has_word = let word = next.has_word in omega (arith, word, lt);
-            stands = ap (λ w. slice_get (stores_before p w (suc n)) row.place) next.has_word ∙ ap (λ xs. slice_get xs row.place) pushed
-                ∙ slice_get_end (stores_before p x n) (value_of p n) row.place place ∙ ap Some same;
-          }))
-          (slice_get_cases_end rows row value found is);
+      placed = record {
+        initial = slice_get-append_left rows (row ∷ []) 0 (record { word = p.words; place = 0 }) l.placed.initial;
+        rows_place = λ value found some is.
+            ⊎_elim
+            (λ (before : slice_get rows value ≡ Some found). places_still p n t (Store x) value found e (l.placed.rows_place value found some before))
+            (λ (last : (value ≡ length rows) × (row ≡ found)).
+            let place : row.place ≡ length (stores_before p x n) = next.at_end ∙ ap length is_old in
+            let same : value_of p n ≡ value = sym (last.0 ∙ next.has_value) in
+            subst (λ (r : StoreRow). PlacesValue p (suc n) value r) last.1 (record {
+              has_word = let word = next.has_word in omega (arith, word, lt);
+              stands = ap (λ w. slice_get (stores_before p w (suc n)) row.place) next.has_word ∙ ap (λ xs. slice_get xs row.place) pushed
+                  ∙ slice_get_end (stores_before p x n) (value_of p n) row.place place ∙ ap Some same;
+            }))
+            (slice_get_cases_end rows row value found is);
+      };
     }
 
 -- a node with its thread
@@ -127,8 +131,10 @@ listed_none p lists one empty = record {
   listed = record {
     one_list_each = one;
     lists_are = λ x lt. let within : x < length lists = omega (arith, one, lt) in slice_get-get_or lists x [] within ∙ ap Some (empty x [] within);
-    initial = refl;
-    rows_place = λ value found some is. let within = slice_get_within (record { word = p.words; place = 0 } ∷ []) value found is in absurd (omega (arith, some, within));
+    placed = record {
+      initial = refl;
+      rows_place = λ value found some is. let within = slice_get_within (record { word = p.words; place = 0 } ∷ []) value found is in absurd (omega (arith, some, within));
+    };
   };
   one_row_each = refl;
 }

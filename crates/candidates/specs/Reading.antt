@@ -16,6 +16,6 @@ place_of load value store =
 abbrev pub found_place : LoadRow → ℕ → StoreRow → Option ℕ
 found_place load value store = if has_value load value store then Some (place_of load value store) else None
 
--- where the candidate at a place behind the first stands in the list of the word
-abbrev pub list_place : LoadRow → ℕ → ℕ
-list_place load place = if nat_le place load.own_from then place - 1 else place - 1 - load.own_from + load.own_to
+-- where the candidate at a place behind the first stands in the table of stores
+abbrev pub table_place : LoadRow → ℕ → ℕ
+table_place load place = load.front + place + (if nat_lt load.own_from place then load.own_to - load.own_from else 0)

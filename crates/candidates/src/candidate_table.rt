@@ -8,7 +8,7 @@ ghost use Rattle.test_lang.specs.Runs.{first_outside};
 ghost use Rattle.test_lang.specs.Values.{load_count};
 
 use crate::load_rows::{LoadRow, list_loads};
-use crate::store_lists::{StoreLists, list_stores};
+use crate::store_table::StoreTable;
 use std::alloc::{AllocError, Global};
 use std::marker::Model;
 use test_lang::test::Test;
@@ -18,11 +18,10 @@ use test_lang::test::Test;
 pub struct Candidates {
     test: Test,
     loads: Vec<LoadRow>,
-    stores: StoreLists,
+    stores: StoreTable,
 }
 
 impl Model for Candidates {
-    ghost use Rattle.std.specs.Prelude.{map};
     ghost use Rattle.test_lang.specs.Program.{Program};
     ghost use Rattle.candidates.specs.Tables.{Tabulates};
 
@@ -30,7 +29,8 @@ impl Model for Candidates {
 
     ghost view = { λ c. c.test };
 
-    ghost invariant = { λ c. Tabulates c.test c.loads.items c.stores.rows.items (map (λ list. list.items) c.stores.lists.items) };
+    ghost invariant = { λ c.
+        Tabulates c.test c.loads.items c.stores.rows.items c.stores.values.items };
 }
 
 impl Candidates {
@@ -38,7 +38,7 @@ impl Candidates {
     pub fn of(alloc: Global, test: &Test) -> Result<Candidates, AllocError>
         ensures { IfOk result (λ candidates. candidates ≡ test.now) }
     {
-        let stores = list_stores(alloc, test)?;
+        let stores = StoreTable::of(alloc, test)?;
         let loads = list_loads(alloc, test, &stores)?;
         Ok(Candidates {
             test: test.clone()?,
@@ -65,17 +65,15 @@ impl Candidates {
         self.loads[rank as usize].count
     }
 
-    /// The value of the candidate at a place, counted from 0.
+    /// The value of the candidate at a place, counted from 0. Which place that is, is up to chance, so no step branches on it.
     pub fn at(&self, rank: u32, place: u32) -> u32
         requires rank { rank < load_count self.now }
         requires place { place < length (candidates_at self.now rank) }
         ensures { slice_get (candidates_at self.now rank) place ≡ Some result }
     {
         let load = &self.loads[rank as usize];
-        if place == 0 {
-            return load.base;
-        }
-        self.stores.lists[load.word as usize][load.list_place(place) as usize]
+        let other = self.stores.values[load.table_place(place)];
+        [load.base, other][usize::from(place != 0)]
     }
 
     /// The place of a value among the candidates.

@@ -5,6 +5,7 @@
 mod candidate_table;
 mod load_rows;
 mod store_lists;
+mod store_table;
 #[cfg(test)]
 mod tests;
 

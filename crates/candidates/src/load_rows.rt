@@ -1,10 +1,11 @@
 //! What the candidates of each load are, told by a few numbers.
 ghost use Rattle.std.specs.Prelude.{◌≡◌, ◌+◌, ◌-◌, ◌^◌, ◌<◌, ◌≤◌, [], ◌∷◌, IfOk, OnOk, IsTrue, length, map};
-ghost use Rattle.candidates.specs.Reading.{found_place, has_value, list_place, place_of};
-ghost use Rattle.candidates.specs.Tables.{ListsStores, TellsBlocks, TellsLoads};
+ghost use Rattle.candidates.specs.Reading.{found_place, has_value, place_of, table_place};
+ghost use Rattle.candidates.specs.Tables.{TellsBlocks, TellsLoads, TellsWords};
 ghost use Rattle.test_lang.specs.Program.{first_node, op_count, thread_length};
 
-use crate::store_lists::{StoreLists, StoreRow};
+use crate::store_lists::StoreRow;
+use crate::store_table::{StoreTable, WordRow};
 use std::alloc::{AllocError, Global};
 use test_lang::op::Op;
 use test_lang::test::Test;
@@ -13,6 +14,8 @@ use test_lang::test::Test;
 #[derive(Clone, Copy, Debug, Drop)]
 pub(crate) struct LoadRow {
     pub word: u32,
+    /// The place in front of the word's list in the table of stores.
+    pub front: u32,
     /// The first candidate.
     pub base: u32,
     /// Where the block begins in the word's list of stores.
@@ -58,17 +61,14 @@ impl LoadRow {
         }
     }
 
-    /// Where the candidate at a place behind the first stands in the list of the word.
-    pub fn list_place(&self, place: u32) -> u32
-        requires some { 0 < place }
-        requires room { place + self.now.own_to < 2 ^ 32 }
-        ensures { result ≡ list_place self.now place }
+    /// Where the candidate at a place behind the first stands in the table of stores. The table has a place for the first as well,
+    /// which says nothing of it. No step branches on the place.
+    pub fn table_place(&self, place: u32) -> usize
+        requires { self.now.skips ≡ 0 ∷ (self.now.own_to - self.now.own_from) ∷ [] }
+        ensures { result ≡ table_place self.now place }
     {
-        if place <= self.own_from {
-            place - 1
-        } else {
-            place - 1 - self.own_from + self.own_to
-        }
+        let skip = self.skips[usize::from(self.own_from < place)];
+        self.front as usize + place as usize + skip as usize
     }
 }
 
@@ -82,27 +82,29 @@ pub(crate) struct OwnStores {
 }
 
 impl OwnStores {
-    /// The row of a load of the word, to which there are so many stores in all.
-    fn load_row(self, word: u32, stores: u32) -> LoadRow
+    /// The row of a load of the word, the stores to which stand there in the table.
+    fn load_row(self, word: u32, stores: WordRow) -> LoadRow
         requires block { self.from ≤ self.to }
-        requires within { self.to ≤ stores }
-        requires room { stores + 1 < 2 ^ 32 }
+        requires within { self.to ≤ stores.count }
+        requires room { stores.count + 1 < 2 ^ 32 }
         ensures { result ≡ record {
           word = word;
+          front = stores.front;
           base = self.last;
           own_from = self.from;
           own_to = self.to;
           skips = 0 ∷ (self.to - self.from) ∷ [];
-          count = stores - (self.to - self.from) + 1;
+          count = stores.count - (self.to - self.from) + 1;
         } }
     {
         LoadRow {
             word,
+            front: stores.front,
             base: self.last,
             own_from: self.from,
             own_to: self.to,
             skips: [0, self.to - self.from],
-            count: stores - (self.to - self.from) + 1,
+            count: stores.count - (self.to - self.from) + 1,
         }
     }
 }
@@ -139,24 +141,27 @@ fn count_stores(test: &Test, thread: u32, own: &mut [OwnStores])
 fn push_loads(
     test: &Test,
     thread: u32,
-    stores: &StoreLists,
+    stores: &StoreTable,
     own: &mut [OwnStores],
     rows: &mut Vec<LoadRow>,
 ) -> Result<(), AllocError>
     requires thread { thread < length test.now.threads }
     requires few { op_count test.now ≤ 2048 }
-    requires listed { ListsStores test.now (op_count test.now) stores.now.rows.items (map (λ list. list.items) stores.now.lists.items) }
-    requires blocks { TellsBlocks test.now thread (first_node test.now thread + thread_length test.now thread) (first_node test.now thread) own.old }
-    requires loads { TellsLoads test.now (first_node test.now thread) rows.old.items }
-    ensures blocks { OnOk result (TellsBlocks test.now thread (first_node test.now thread + thread_length test.now thread)
-        (first_node test.now thread + thread_length test.now thread) own.new) }
-    ensures loads { OnOk result (TellsLoads test.now (first_node test.now thread + thread_length test.now thread) rows.new.items) }
+    requires words { TellsWords test.now stores.now.values.items stores.now.words.items }
+    requires blocks { let first = first_node test.now thread in
+        TellsBlocks test.now thread (first + thread_length test.now thread) first own.old }
+    requires loads { TellsLoads test.now stores.now.values.items
+        (first_node test.now thread) rows.old.items }
+    ensures blocks { let end = first_node test.now thread + thread_length test.now thread in
+        OnOk result (TellsBlocks test.now thread end end own.new) }
+    ensures loads { let end = first_node test.now thread + thread_length test.now thread in
+        OnOk result (TellsLoads test.now stores.now.values.items end rows.new.items) }
 {
     let first = test.first_of(thread);
     for node in first..first + test.len_of(thread) {
         match test.op(node) {
             Op::Load { word } => {
-                let all = stores.lists[word as usize].len() as u32;
+                let all = stores.words[word as usize];
                 rows.push(own[word as usize].load_row(word, all))?;
             }
             Op::Store { word } => own[word as usize].last = test.value_of(node),
@@ -170,10 +175,11 @@ fn push_loads(
 pub(crate) fn list_loads(
     alloc: Global,
     test: &Test,
-    stores: &StoreLists,
+    stores: &StoreTable,
 ) -> Result<Vec<LoadRow>, AllocError>
-    requires { ListsStores test.now (op_count test.now) stores.now.rows.items (map (λ list. list.items) stores.now.lists.items) }
-    ensures { IfOk result (λ rows. TellsLoads test.now (op_count test.now) rows.items) }
+    requires { TellsWords test.now stores.now.values.items stores.now.words.items }
+    ensures { IfOk result (λ rows.
+        TellsLoads test.now stores.now.values.items (op_count test.now) rows.items) }
 {
     let none = OwnStores {
         from: 0,

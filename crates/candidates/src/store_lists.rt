@@ -1,5 +1,5 @@
 //! The stores to each word, and the place of each store among them.
-ghost use Rattle.std.specs.Prelude.{◌≡◌, ◌+◌, ◌^◌, ◌<◌, [], ◌∷◌, ◌++◌, IfOk, OnOk, length, map, slice_get, slice_index_or, slice_set, All};
+ghost use Rattle.std.specs.Prelude.{◌≡◌, ◌+◌, ◌^◌, ◌<◌, [], ◌∷◌, ◌++◌, IfOk, OnOk, length, map, slice_index_or, slice_set, All};
 ghost use Rattle.candidates.specs.Tables.{ListsStores};
 ghost use Rattle.test_lang.specs.Program.{IsWithinLimits, op_count};
 ghost use Rattle.test_lang.specs.Values.{store_count};
@@ -15,7 +15,7 @@ pub(crate) struct StoreRow {
     pub place: u32,
 }
 
-/// The stores of a test.
+/// The stores of a test, while they are listed.
 #[derive(Debug, Drop)]
 pub(crate) struct StoreLists {
     /// By value.
@@ -42,13 +42,6 @@ impl StoreLists {
             lists.push(Vec::new(alloc))?;
         }
         Ok(StoreLists { rows, lists })
-    }
-
-    /// The row of a value, if it is that of a store or the initial one.
-    pub fn row(&self, value: u32) -> Option<StoreRow>
-        ensures { result ≡ slice_get self.now.rows.items value }
-    {
-        self.rows.get(value as usize).copied()
     }
 
     /// Adds the store of the next value.

@@ -6,5 +6,5 @@ use Rattle.candidates.proofs.load_rows.list_loads.Given as goal
 abbrev pub invariant-loop-thread : goal.invariant-loop-thread
 invariant-loop-thread l = record {
   counts : CountsStores l.test (first_node l.test l.thread) l.own;
-  loads : TellsLoads l.test (first_node l.test l.thread) l.rows.items;
+  loads : TellsLoads l.test l.stores.values.items (first_node l.test l.thread) l.rows.items;
 }

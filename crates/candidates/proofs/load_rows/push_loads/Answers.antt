@@ -5,9 +5,10 @@ use Rattle.test_lang.specs.declared.op.Op.TheVariants.{Load, Store, Fence}
 use Rattle.test_lang.specs.Program.{nodes, op_count, first_node, thread_length}
 use Rattle.candidates.specs.declared.load_rows.OwnStores.{OwnStores}
 use Rattle.candidates.specs.Stores.{stores_to}
-use Rattle.candidates.specs.Tables.{TellsBlock, TellsBlocks}
+use Rattle.candidates.specs.Tables.{TellsBlock, TellsBlocks, TellsList}
 use Rattle.candidates.proofs.StoreSteps.{stores_before-short}
-use Rattle.candidates.proofs.OwnBlocks.{IsRow, list_length, stands_in, thread_node, block_order, loads_load, loads_other, blocks_last, blocks_no_store}
+use Rattle.candidates.proofs.OwnBlocks.{IsRow, stands_in, thread_node, block_order, loads_load, loads_other, blocks_last, blocks_no_store}
+use Rattle.candidates.proofs.WordRows.{word_told}
 use Rattle.candidates.proofs.load_rows.push_loads.Goals as goal
 use Rattle.candidates.proofs.load_rows.push_loads.Goals.{in-Load+in_ok-push-in-Load, in-Store, in-Fence}
 
@@ -25,16 +26,16 @@ loop-node-init c = rw c.first_of-first.ensures.first (record { blocks = c.requir
 abbrev none : OwnStores
 none = record { from = 0; to = 0; last = 0 }
 
-pub overflow_cast-all : goal.overflow_cast-all
-overflow_cast-all c =
-    let all = list_length c.args.test.now c.args.stores.now.rows.items c.args.stores.now.lists.items c.index.result.now c.in-Load.word c.len-all.result c.requires.listed c.in-Load.ensures.word c.index.ensures c.len-all.ensures in
-    let few = c.requires.few in
-    let short = stores_before-short c.args.test.now c.in-Load.word (op_count c.args.test.now) in
-    omega (arith, all, few, short)
+pub index-all-requires : goal.index-all-requires
+index-all-requires c =
+    let word = c.in-Load.ensures.word in
+    let one = c.requires.words.one_row_each in
+    let long = c.args.stores.now.words.ok.0 in
+    omega (arith, word, one, long)
 
--- the length of the word's list
-all_is : (c : goal.After-load_row-arg-1) → c.len-all.result ≡ length (stores_to c.args.test.now c.in-Load.word)
-all_is c = list_length c.args.test.now c.args.stores.now.rows.items c.args.stores.now.lists.items c.index.result.now c.in-Load.word c.len-all.result c.requires.listed c.in-Load.ensures.word c.index.ensures c.len-all.ensures
+-- where the stores to the word stand
+all_told : (c : goal.After-load_row-arg-1) → TellsList c.args.stores.now.values.items (stores_to c.args.test.now c.in-Load.word) c.index-all.result.now
+all_told c = word_told c.args.test.now c.args.stores.now.values.items c.args.stores.now.words.items c.in-Load.word c.index-all.result.now c.requires.words c.in-Load.ensures.word c.index-all.ensures
 
 -- what is kept of the word
 block_of : (c : goal.After-load_row-arg-1) → TellsBlock c.args.test.now c.args.thread c.in-Load.word (first_node c.args.test.now c.args.thread + thread_length c.args.test.now c.args.thread) c.loop-node.node (get_or c.loop-node.own c.in-Load.word none)
@@ -56,14 +57,17 @@ pub load_row-requires-clause-block : goal.load_row-requires-clause-block
 load_row-requires-clause-block c = (order c).0
 
 pub load_row-requires-clause-within : goal.load_row-requires-clause-within
-load_row-requires-clause-within c = rw (all_is c) (order c).1
+load_row-requires-clause-within c =
+    let count = (all_told c).count_is in
+    let to = (order c).1 in
+    omega (arith, count, to)
 
 pub load_row-requires-clause-room : goal.load_row-requires-clause-room
 load_row-requires-clause-room c =
-    let all = all_is c in
+    let count = (all_told c).count_is in
     let few = c.requires.few in
     let short = stores_before-short c.args.test.now c.in-Load.word (op_count c.args.test.now) in
-    omega (arith, all, few, short)
+    omega (arith, count, few, short)
 
 pub loop-node-preserved : goal.loop-node-preserved
 loop-node-preserved c =
@@ -71,6 +75,7 @@ loop-node-preserved c =
     let t = c.args.thread in
     let n = c.loop-node.node in
     let own = c.loop-node.own in
+    let table = c.args.stores.now.values.items in
     let rows = c.loop-node.rows.items in
     let end = first_node p t + thread_length p t in
     let one = c.loop-node.invariant.blocks.one_each in
@@ -83,12 +88,13 @@ loop-node-preserved c =
           let is = thread_node p t n (Load word) stands w.in-Load.ensures.found in
           let stores = get_or own word none in
           let block = c.loop-node.invariant.blocks.blocks word stores (slice_get-get_or own word none (omega (arith, one, within))) in
-          let all = list_length p c.args.stores.now.rows.items c.args.stores.now.lists.items w.index.result.now word w.len-all.result c.requires.listed within w.index.ensures w.len-all.ensures in
+          let all = word_told p table c.args.stores.now.words.items word w.index-all.result.now c.requires.words within w.index-all.ensures in
+          let count = all.count_is in
           let told = w.load_row.ensures in
-          let row : IsRow p t n word stores w.load_row.result = rw told (record { word_is = refl; base_is = refl; from_is = refl; to_is = refl; skips_are = refl; count_is = omega (arith, all) }) in
+          let row : IsRow p t n word w.index-all.result.now.front stores w.load_row.result = rw told (record { word_is = refl; front_is = refl; base_is = refl; from_is = refl; to_is = refl; skips_are = refl; count_is = omega (arith, count) }) in
           rw (w.own-is, w.rows-is) (record {
             blocks = blocks_no_store p t n end (Load word) own is refl c.loop-node.invariant.blocks;
-            loads = rw w.in_ok-push-in-Load.ensures.items (loads_load p t n word stores w.load_row.result rows is within block row c.loop-node.invariant.loads);
+            loads = rw w.in_ok-push-in-Load.ensures.items (loads_load p t n word w.index-all.result.now.front table stores w.load_row.result rows is within block all.behind row c.loop-node.invariant.loads);
           })
       | in-Store w ↦
           let word = w.in-Store.word in
@@ -96,13 +102,13 @@ loop-node-preserved c =
           let is = thread_node p t n (Store word) stands w.in-Store.ensures.found in
           rw (w.own-is, w.rows-is, w.value_of.ensures.value) (record {
             blocks = blocks_last p t n end word own (get_or own word none) is (slice_get-get_or own word none (omega (arith, one, within))) c.loop-node.invariant.blocks;
-            loads = loads_other p t n (Store word) rows is refl c.loop-node.invariant.loads;
+            loads = loads_other p t n (Store word) table rows is refl c.loop-node.invariant.loads;
           })
       | in-Fence w ↦
           let is : slice_get (nodes p) n ≡ Some (t, Fence) = thread_node p t n Fence stands (c.op.ensures.found ∙ ap Some w.in-Fence.is) in
           rw (w.own-is, w.rows-is) (record {
             blocks = blocks_no_store p t n end Fence own is refl c.loop-node.invariant.blocks;
-            loads = loads_other p t n Fence rows is refl c.loop-node.invariant.loads;
+            loads = loads_other p t n Fence table rows is refl c.loop-node.invariant.loads;
           })
     ]
 

@@ -6,5 +6,5 @@ use Rattle.candidates.proofs.load_rows.push_loads.Given as goal
 abbrev pub invariant-loop-node : goal.invariant-loop-node
 invariant-loop-node l = record {
   blocks : TellsBlocks l.test l.thread (first_node l.test l.thread + thread_length l.test l.thread) l.node l.own;
-  loads : TellsLoads l.test l.node l.rows.items;
+  loads : TellsLoads l.test l.stores.values.items l.node l.rows.items;
 }
