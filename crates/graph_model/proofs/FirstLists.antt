@@ -3,7 +3,7 @@ use Rattle.std.proofs.Common.{◌≡◌, ◌∙◌, ◌⊎◌, ℕ, suc, ◌+◌
 use Rattle.std.specs.Prelude.{Option, Some, None, slice_range}
 use Rattle.std.specs.List.{filter_map, flat_map}
 use Rattle.std.proofs.lemmas.Bool.{cases_eq}
-use Rattle.std.proofs.lemmas.List.{drop-append-le, take-append-le, drop_at, take_all, length-drop, get_or_append_left, get_or-append_right}
+use Rattle.std.proofs.lemmas.List.{get_or_default, drop-append-le, take-append-le, drop_at, take_all, length-drop, get_or_append_left, get_or-append_right}
 use Rattle.std.proofs.lemmas.List.Elements.{filter_map-append}
 use Rattle.orders.specs.Orders.{nodes_below}
 use Rattle.orders.proofs.Below.{length-below}
@@ -130,5 +130,16 @@ module _ (p : Program) (word : ℕ) (starts stores ys : List ℕ) (room : length
 
 -- the part of a word, by numbers and a list that were read
 pub part-read : (p : Program) (starts stores list : List ℕ) (word start end : ℕ) → HasFirstLists p starts stores → word < p.words →
-    start ≡ get_or starts word 0 → end ≡ get_or starts (word + 1) 0 → list ≡ stores → take (end - start) (drop start list) ≡ first_stores_to p word
-part-read p starts stores list word start end h lt from to same = rw (from, to, same) (h.each word lt)
+    start ≡ get_or starts word start → end ≡ get_or starts (word + 1) end → list ≡ stores → take (end - start) (drop start list) ≡ first_stores_to p word
+part-read p starts stores list word start end h lt from to same =
+    let long = h.room in
+    let low = from ∙ get_or_default starts word start 0 (omega (arith, lt, long)) in
+    let high = to ∙ get_or_default starts (word + 1) end 0 (omega (arith, lt, long)) in
+    rw (low, high, same) (h.each word lt)
+
+pub few-read : (p : Program) (starts stores list : List ℕ) (word start end : ℕ) → HasFirstLists p starts stores → word < p.words →
+    start ≡ get_or starts word start → end ≡ get_or starts (word + 1) end → list ≡ stores → length (take (end - start) (drop start list)) ≤ length p.threads
+few-read p starts stores list word start end h lt from to same =
+    let few = few-firsts p word in
+    let size : length (take (end - start) (drop start list)) ≡ length (first_stores_to p word) = ap length (part-read p starts stores list word start end h lt from to same) in
+    omega (arith, few, size)

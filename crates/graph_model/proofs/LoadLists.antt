@@ -1,25 +1,19 @@
 -- The list of a load's edges, as it is put together.
-use Rattle.std.proofs.Common.{◌≡◌, ℕ, ◌+◌, ◌≤◌, List, [], ◌++◌, Bool, true, ◌&&◌, length, get_or, arith, refl, sym, ap, subst, ◌∙◌}
+use Rattle.std.proofs.Common.{◌≡◌, ℕ, ◌≤◌, List, Bool, true, ◌&&◌, get_or, arith, refl, sym, ap, subst, ◌∙◌}
 use Rattle.std.specs.Prelude.{Option, Some, None, slice_get, ◌==◌}
 use Rattle.std.specs.Option.{option_map}
-use Rattle.std.specs.List.{flat_map}
 use Rattle.std.proofs.lemmas.Bool.Decides.{nat_tests}
 use Rattle.std.proofs.lemmas.Option.{get_or_from_slice_get}
-use Rattle.orders.specs.Orders.{nodes_below}
-use Rattle.orders.proofs.Below.{length-below}
 use Rattle.test_lang.specs.declared.op.Op.{Op}
 use Rattle.test_lang.specs.declared.op.Op.TheVariants.{Load, Store, Fence}
 use Rattle.test_lang.specs.Program.{Program, nodes, op_at, op_count, at_node, passes, passes_after}
 use Rattle.test_lang.specs.Values.{is_store, is_store_to, same_word, is_store_at, is_load_at, value_of, rank_of, load_nodes, store_count}
 use Rattle.test_lang.specs.Runs.{value_read, writes_for, IsInside}
-use Rattle.digraph.specs.Roomed.{Roomed}
-use Rattle.graph_model.specs.FewKept.{edge_to}
 use Rattle.graph_model.specs.LoadEdges.{first_store, store_of, edges_to_first_stores, edges_by_store, edges_of_load}
 use Rattle.graph_model.specs.StoreTables.{is_thread_store, first_store_to}
 use Rattle.graph_model.proofs.Found.{find-same}
 use Rattle.graph_model.proofs.LaterStores.{value_read-le}
 use Rattle.graph_model.proofs.LoadEdges.{edges_of_initial, edges_of_value, store_of-value}
-use Rattle.graph_model.proofs.Sizes.{length-flat_map_le, length-edge_to}
 
 -- a thread's first store to the word of a load
 
@@ -47,18 +41,6 @@ first_store_told p load x t e =
     find-same (is_thread_store p x t) (λ n. writes_for p load n && at_node (λ node. node.0 == t) p n)
     (λ n. store_to_from (slice_get (nodes p) load) (slice_get (nodes p) n) x t e) (op_count p)
 
--- how many edges there are to first stores
-
-module _ (p : Program) (load : ℕ) where
-  length-firsts : (n : ℕ) → length (flat_map (λ t. edge_to load (first_store p load t)) (nodes_below n)) ≤ n
-  length-firsts n =
-      let each = length-flat_map_le (λ t. edge_to load (first_store p load t)) (nodes_below n) 1 (λ t. length-edge_to load (first_store p load t)) in
-      let all = length-below n in
-      omega (arith, each, all)
-
-  pub length-edges_to_first_stores : length (edges_to_first_stores p load) ≤ length p.threads
-  length-edges_to_first_stores = length-firsts (length p.threads)
-
 -- all edges of the load of a rank
 
 module _ (p : Program) (run : List ℕ) (load rank : ℕ) (listed : slice_get (load_nodes p) rank ≡ Some load) (ranked : rank_of p load ≡ rank) where
@@ -81,19 +63,3 @@ module _ (p : Program) (run : List ℕ) (load rank : ℕ) (listed : slice_get (l
 
   pub value_few : IsInside p run → is_load_at p load ≡ true → get_or run rank 0 ≤ store_count p
   value_few inside h = subst (λ (v : ℕ). v ≤ store_count p) value_is (value_read-le p run load inside h)
-
--- what the table of first stores tells at a thread
-
--- a list that was emptied and then filled
-pub filled : (old empty new : Roomed (ℕ × ℕ)) (put edges : List (ℕ × ℕ)) → empty ≡ record old { list = [] } → new ≡ record empty { list = empty.list ++ put } → put ≡ edges →
-    new ≡ record old { list = edges }
-filled old empty new put edges e d same =
-    d ∙ ap (λ (x : Roomed (ℕ × ℕ)). record x { list = x.list ++ put }) e ∙ ap (λ (list : List (ℕ × ℕ)). record old { list = list }) same
-
-pub length-filled : (p : Program) (load : ℕ) (old empty new : Roomed (ℕ × ℕ)) → empty ≡ record old { list = [] } → new ≡ record empty { list = empty.list ++ edges_to_first_stores p load } →
-    length new.list ≤ 2 + length p.threads
-length-filled p load old empty new e d =
-    let few = length-edges_to_first_stores p load in
-    let same : length new.list ≡ length (edges_to_first_stores p load) =
-    ap (λ (x : Roomed (ℕ × ℕ)). length x.list) (filled old empty new (edges_to_first_stores p load) (edges_to_first_stores p load) e d refl) in
-    omega (arith, few, same)

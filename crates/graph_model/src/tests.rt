@@ -257,36 +257,36 @@ fn fill_counted<L: Ledger>(
     fixed: &Static,
     run: &[u32],
     graph: &mut Graph,
-    out: &mut Edges,
+    out: &mut [(u32, u32)],
     blank: Blank,
 )
     requires inside { IsInside fixed.now.test run.now }
     requires nodes { graph.old.nodes ≡ fixed.now.graph.nodes }
     requires begins { take (length fixed.now.graph.edges) graph.old.edges ≡ fixed.now.graph.edges }
     requires room { length fixed.now.graph.edges + load_count fixed.now.test * (2 + length fixed.now.test.threads) ≤ graph.old.room }
-    requires out_room { 2 + length fixed.now.test.threads ≤ out.old.room }
+    requires out_room { load_count fixed.now.test * (2 + length fixed.now.test.threads)
+        ≤ length out.old }
     requires name { blank.name ≡ L.name }
     requires parts { blank.parts ≡ L.parts }
     requires some { 0 < blank.parts }
     ensures nodes { graph.new.nodes ≡ fixed.now.graph.nodes }
     ensures begins { take (length fixed.now.graph.edges) graph.new.edges ≡ fixed.now.graph.edges }
     ensures room { length fixed.now.graph.edges + load_count fixed.now.test * (2 + length fixed.now.test.threads) ≤ graph.new.room }
-    ensures out_room { out.new.room ≡ out.old.room }
 {
     let mut steps = Steps::<L>::new(blank);
     fixed.run_into(run, graph, out, &mut steps);
 }
 
-fn fill(fixed: &Static, run: &[u32], graph: &mut Graph, out: &mut Edges)
+fn fill(fixed: &Static, run: &[u32], graph: &mut Graph, out: &mut [(u32, u32)])
     requires inside { IsInside fixed.now.test run.now }
     requires nodes { graph.old.nodes ≡ fixed.now.graph.nodes }
     requires begins { take (length fixed.now.graph.edges) graph.old.edges ≡ fixed.now.graph.edges }
     requires room { length fixed.now.graph.edges + load_count fixed.now.test * (2 + length fixed.now.test.threads) ≤ graph.old.room }
-    requires out_room { 2 + length fixed.now.test.threads ≤ out.old.room }
+    requires out_room { load_count fixed.now.test * (2 + length fixed.now.test.threads)
+        ≤ length out.old }
     ensures nodes { graph.new.nodes ≡ fixed.now.graph.nodes }
     ensures begins { take (length fixed.now.graph.edges) graph.new.edges ≡ fixed.now.graph.edges }
     ensures room { length fixed.now.graph.edges + load_count fixed.now.test * (2 + length fixed.now.test.threads) ≤ graph.new.room }
-    ensures out_room { out.new.room ≡ out.old.room }
 {
     fill_counted::<Brand>(fixed, run, graph, out, Blank::new(1));
 }
@@ -305,7 +305,7 @@ fn check_graphs(
 {
     let fixed = Static::of(alloc, test, MemModel::Sc)?;
     let mut graph = fixed.graph_for_runs(alloc)?;
-    let mut out = Edges::with_room(alloc, 2 + fixed.threads())?;
+    let mut out = vec![in alloc; (0u32, 0u32); fixed.most_run_edges() as usize]?;
     let [of_first, of_second] = want;
     fill(&fixed, first, &mut graph, &mut out);
     assert_eq!(rt; edges_of(alloc, &graph)?.as_slice(), of_first);

@@ -1,27 +1,29 @@
 //! The few edges that a load adds.
-ghost use Rattle.std.specs.Prelude.{◌≡◌, ◌+◌, ◌∷◌, [], ◌++◌, ◌<◌, ◌≤◌, length, slice_index, Some, IsTrue};
+ghost use Rattle.std.specs.Prelude.{◌≡◌, ◌+◌, ◌∷◌, [], ◌++◌, ◌<◌, ◌≤◌, length, slice_index, take, Some, IsTrue, if◌then◌else◌};
 ghost use Rattle.test_lang.specs.Program.{op_at, op_count};
 ghost use Rattle.test_lang.specs.Runs.{IsInside};
 ghost use Rattle.test_lang.specs.Values.{is_load_at, load_count, load_nodes};
-ghost use Rattle.graph_model.specs.FewKept.{edge_to};
 ghost use Rattle.graph_model.specs.LoadEdges.{edges_by_store, edges_of_load, edges_to_first_stores};
 
 use crate::static_graph::Static;
 use digraph::{Edges, Steps};
 use std::sync::ledger::Ledger;
 use test_lang::op::Op;
-use test_lang::test::Test;
+use test_lang::test::{MAX_THREADS, Test};
 
-/// Puts an edge from a node to the other one, if there is one, at the end of the list, and counts it.
-fn put<L: Ledger>(out: &mut Edges, steps: &mut Steps<L>, from: u32, to: Option<u32>)
-    requires { length out.old.list < out.old.room }
-    ensures put { out.new ≡ record out.old { list = out.old.list ++ edge_to from to } }
-    ensures ticks { steps.new ≡ steps.old + length (edge_to from to) }
+/// Room for the edges of a load of any test.
+const MOST: usize = 2 + MAX_THREADS as usize;
+
+/// Writes an edge behind the first `count` ones, and returns their number with it. Where there is no such edge it is written all the same, but not
+/// counted: which store a load gives is up to chance, so no step branches on it.
+fn put(out: &mut [(u32, u32)], count: usize, edge: (u32, u32), is_there: bool) -> usize
+    requires { count < length out.old }
+    ensures put { take result out.new
+        ≡ take count out.old ++ (if is_there then edge ∷ [] else []) }
+    ensures few { result ≤ count + 1 }
 {
-    if let Some(to) = to {
-        steps.tick();
-        out.push(from, to);
-    }
+    out[count] = edge;
+    count + usize::from(is_there)
 }
 
 /// The word of a load.
@@ -37,37 +39,62 @@ fn word_of(test: &Test, load: u32) -> u32
 }
 
 impl Static {
-    /// Puts the edges of a load that gives the initial value.
-    fn put_first_stores<L: Ledger>(&self, load: u32, out: &mut Edges, steps: &mut Steps<L>)
+    /// Writes the edges of a load that gives the initial value behind the first `count` ones, and returns their number with these.
+    fn put_first_stores(&self, load: u32, out: &mut [(u32, u32)], mut count: usize) -> usize
         requires load { IsTrue (is_load_at self.now.test load) }
-        requires room { length out.old.list + length self.now.test.threads ≤ out.old.room }
-        ensures put { out.new
-            ≡ record out.old { list = out.old.list ++ edges_to_first_stores self.now.test load } }
-        ensures ticks { steps.new ≡ steps.old + length (edges_to_first_stores self.now.test load) }
+        requires room { count + length self.now.test.threads ≤ length out.old }
+        ensures put { take result out.new
+            ≡ take count out.old ++ edges_to_first_stores self.now.test load }
+        ensures few { result ≤ count + length self.now.test.threads }
     {
         let word = word_of(&self.test, load) as usize;
         let starts = &self.first_stores.starts;
         let (start, end) = (starts[word] as usize, starts[word + 1] as usize);
         for store in &self.first_stores.stores[start..end] {
-            put(out, steps, load, Some(*store));
+            count = put(out, count, (load, *store), true);
         }
+        count
     }
 
-    /// Puts the edges of a load that gives the value of a store.
-    fn put_by_store<L: Ledger>(&self, load: u32, store: u32, out: &mut Edges, steps: &mut Steps<L>)
+    /// The same for a load that gives the value of a store.
+    fn put_by_store(&self, load: u32, store: u32, out: &mut [(u32, u32)], count: usize) -> usize
         requires load { load < op_count self.now.test }
         requires store { store < op_count self.now.test }
-        requires room { length out.old.list + 2 ≤ out.old.room }
-        ensures put { out.new
-            ≡ record out.old { list = out.old.list ++ edges_by_store self.now.test load (Some store) } }
-        ensures ticks { steps.new
-            ≡ steps.old + length (edges_by_store self.now.test load (Some store)) }
+        requires room { count + 2 ≤ length out.old }
+        ensures put { take result out.new
+            ≡ take count out.old ++ edges_by_store self.now.test load (Some store) }
+        ensures few { result ≤ count + 2 }
     {
-        if self.test.thread_of(store) == self.test.thread_of(load) {
-            return;
+        let is_other = self.test.thread_of(store) != self.test.thread_of(load);
+        let next = self.next_stores[store as usize];
+        let count = put(out, count, (store, load), is_other);
+        let to = next.unwrap_or(load);
+        put(out, count, (load, to), is_other & next.is_some())
+    }
+
+    /// Writes the few edges of a load, by its rank, behind the first `count` ones, and returns their number with these. The edges lead from the store
+    /// of another thread that the load gives, and to the first stores that are known to be later than what it gives.
+    pub(super) fn put_load(
+        &self,
+        run: &[u32],
+        rank: u32,
+        out: &mut [(u32, u32)],
+        count: usize,
+    ) -> usize
+        requires inside { IsInside self.now.test run.now }
+        requires rank { rank < load_count self.now.test }
+        requires room { count + (2 + length self.now.test.threads) ≤ length out.old }
+        ensures put { take result out.new ≡ take count out.old
+            ++ edges_of_load self.now.test run.now (slice_index (load_nodes self.now.test) rank) }
+        ensures few { result ≤ count + (2 + length self.now.test.threads) }
+    {
+        let load = self.test.load_at(rank);
+        let value = run[rank as usize];
+        if value == 0 {
+            self.put_first_stores(load, out, count)
+        } else {
+            self.put_by_store(load, self.test.store_of(value), out, count)
         }
-        put(out, steps, store, Some(load));
-        put(out, steps, load, self.next_stores[store as usize]);
     }
 
     /// Empties the list and puts the few edges of a load there, by its rank: from the store of another thread that it gives, and to the first stores
@@ -87,13 +114,15 @@ impl Static {
         ensures few { length out.new.list ≤ 2 + length self.now.test.threads }
         ensures ticks { steps.new ≡ steps.old + length out.new.list }
     {
+        // The prover is told how many threads there may be.
+        let _threads = self.threads();
+        let mut edges = [(0u32, 0u32); MOST];
+        let count = self.put_load(run, rank, &mut edges, 0);
         out.clear();
-        let load = self.test.load_at(rank);
-        let value = run[rank as usize];
-        if value == 0 {
-            self.put_first_stores(load, out, steps);
-        } else {
-            self.put_by_store(load, self.test.store_of(value), out, steps);
+        for edge in &edges[..count] {
+            let (from, to) = *edge;
+            out.push(from, to);
         }
+        steps.tick_times(count as u64);
     }
 }

@@ -1,28 +1,16 @@
 //! The graph of a run's few edges.
-ghost use Rattle.std.specs.Prelude.{◌≡◌, ◌+◌, ◌*◌, ◌^◌, ◌<◌, ◌≤◌, All, length, take, IfOk};
+ghost use Rattle.std.specs.Prelude.{◌≡◌, ◌+◌, ◌*◌, ◌^◌, ◌<◌, ◌≤◌, length, take, IfOk};
+ghost use Rattle.std.specs.List.{flat_map};
 ghost use Rattle.test_lang.specs.Runs.{IsInside};
-ghost use Rattle.test_lang.specs.Values.{load_count};
-ghost use Rattle.graph_model.specs.FewKept.{with_edges};
+ghost use Rattle.test_lang.specs.Values.{load_count, load_nodes};
+ghost use Rattle.graph_model.specs.LoadEdges.{edges_of_load};
 ghost use Rattle.graph_model.specs.RunVerdicts.{StandsForRun};
 ghost use Rattle.graph_model.specs.StaticGraph.{few_run_edges};
 
 use crate::static_graph::Static;
-use digraph::{Edges, Graph, Steps};
+use digraph::{Graph, Steps};
 use std::alloc::{AllocError, Global};
 use std::sync::ledger::Ledger;
-
-/// Adds edges in their order.
-fn add_edges(graph: &mut Graph, edges: &[(u32, u32)])
-    requires ends { All (λ edge. (edge.0 < graph.old.nodes)
-        × (edge.1 < graph.old.nodes)) edges.now }
-    requires room { length graph.old.edges + length edges.now ≤ graph.old.room }
-    ensures { graph.new ≡ with_edges graph.old edges.now }
-{
-    for edge in edges {
-        let (from, to) = *edge;
-        graph.add(from, to);
-    }
-}
 
 impl Static {
     fn graph_with_room(&self, alloc: Global, more: u32) -> Result<Graph, AllocError>
@@ -38,6 +26,14 @@ impl Static {
         Ok(copy)
     }
 
+    /// The most edges that the loads of a run add.
+    pub fn most_run_edges(&self) -> u32
+        ensures count { result ≡ load_count self.now.test * (2 + length self.now.test.threads) }
+        ensures few { result ≤ 36864 }
+    {
+        self.loads() * (2 + self.threads())
+    }
+
     /// A copy of the static graph with room for the few edges of any run. The error is want of memory.
     pub fn graph_for_runs(&self, alloc: Global) -> Result<Graph, AllocError>
         ensures copy { IfOk result (λ copy. copy ≡ record self.now.graph {
@@ -46,16 +42,34 @@ impl Static {
         ensures begins { IfOk result (λ copy. take (length self.now.graph.edges) copy.edges
             ≡ self.now.graph.edges) }
     {
-        self.graph_with_room(alloc, self.test.loads() * (2 + self.test.threads()))
+        // The prover is told how many operations there may be.
+        let _ops = self.test.ops();
+        self.graph_with_room(alloc, self.most_run_edges())
+    }
+
+    /// Writes the few edges of each load, by rising rank, to the front of a slice, and returns their number.
+    fn put_loads(&self, run: &[u32], out: &mut [(u32, u32)]) -> usize
+        requires inside { IsInside self.now.test run.now }
+        requires room { load_count self.now.test * (2 + length self.now.test.threads)
+            ≤ length out.old }
+        ensures put { take result out.new
+            ≡ flat_map (edges_of_load self.now.test run.now) (load_nodes self.now.test) }
+        ensures few { result ≤ load_count self.now.test * (2 + length self.now.test.threads) }
+    {
+        let mut count = 0;
+        for rank in 0..self.test.loads() {
+            count = self.put_load(run, rank, out, count);
+        }
+        count
     }
 
     /// Makes of a graph that begins with the static edges, as one by `graph_for_runs`, the graph of a run: takes its other edges away, and adds the
-    /// few edges of each load, by rising rank. It ticks once for each of these. `out` is where the edges of each load stand on the way.
+    /// few edges of each load, by rising rank. It ticks once for each of these. `out` is where they stand on the way.
     pub fn run_into<L: Ledger>(
         &self,
         run: &[u32],
         graph: &mut Graph,
-        out: &mut Edges,
+        out: &mut [(u32, u32)],
         steps: &mut Steps<L>,
     )
         requires inside { IsInside self.now.test run.now }
@@ -63,21 +77,20 @@ impl Static {
         requires begins { take (length self.now.graph.edges) graph.old.edges
             ≡ self.now.graph.edges }
         requires room { length self.now.graph.edges + load_count self.now.test * (2 + length self.now.test.threads) ≤ graph.old.room }
-        requires out_room { 2 + length self.now.test.threads ≤ out.old.room }
+        requires out_room { load_count self.now.test * (2 + length self.now.test.threads)
+            ≤ length out.old }
         ensures graph { graph.new ≡ record graph.old { edges = few_run_edges self.now run.now } }
         ensures verdicts { StandsForRun self.now.model self.now.test run.now graph.new }
         // It may be made the graph of a next run.
         ensures nodes { graph.new.nodes ≡ self.now.graph.nodes }
         ensures begins { take (length self.now.graph.edges) graph.new.edges ≡ self.now.graph.edges }
         ensures room { length self.now.graph.edges + load_count self.now.test * (2 + length self.now.test.threads) ≤ graph.new.room }
-        ensures out_room { out.new.room ≡ out.old.room }
         ensures ticks { steps.new + length self.now.graph.edges
             ≡ steps.old + length graph.new.edges }
     {
-        graph.truncate(self.graph.edges());
-        for rank in 0..self.test.loads() {
-            self.dynamic_into(run, rank, out, steps);
-            add_edges(graph, out.list());
-        }
+        graph.truncate_to(&self.graph);
+        let count = self.put_loads(run, out);
+        steps.tick_times(count as u64);
+        graph.add_all(&out[..count]);
     }
 }
