@@ -11,7 +11,7 @@ ghost use Rattle.graph_model.specs.RunVerdicts.{StandsForRun};
 ghost use Rattle.mtrace_app.specs.Judging.{IsJudge};
 ghost use Rattle.mtrace_app.specs.Report.{IsJudged};
 
-use digraph::{Edges, Graph, Nodes, Steps};
+use digraph::{Graph, Nodes, Steps};
 use full_sort::{Scratch, least_on_cycle, least_order_into, shortest_cycle_into};
 use graph_model::Static;
 use signature_plan::Plan;
@@ -27,7 +27,7 @@ fn has_order<L: Ledger>(
     fixed: &Static,
     run: &[u32],
     graph: &mut Graph,
-    edges: &mut Edges,
+    edges: &mut [(u32, u32)],
     scratch: &mut Scratch,
     order: &mut [u32],
     blank: Blank,
@@ -39,7 +39,8 @@ fn has_order<L: Ledger>(
     requires nodes { graph.old.nodes ≡ fixed.now.graph.nodes }
     requires begins { take (length fixed.now.graph.edges) graph.old.edges ≡ fixed.now.graph.edges }
     requires graph_room { length fixed.now.graph.edges + load_count fixed.now.test * (2 + length fixed.now.test.threads) ≤ graph.old.room }
-    requires edge_room { 2 + length fixed.now.test.threads ≤ edges.old.room }
+    requires edge_room { load_count fixed.now.test * (2 + length fixed.now.test.threads)
+        ≤ length edges.old }
     requires scratch_room { scratch.old ≡ fixed.now.graph.nodes }
     requires order_room { length order.old ≡ fixed.now.graph.nodes }
     ensures acyclic { OnTrue result (IsRunAcyclic fixed.now.model fixed.now.test run.now) }
@@ -49,7 +50,6 @@ fn has_order<L: Ledger>(
     ensures nodes { graph.new.nodes ≡ fixed.now.graph.nodes }
     ensures begins { take (length fixed.now.graph.edges) graph.new.edges ≡ fixed.now.graph.edges }
     ensures graph_room { length fixed.now.graph.edges + load_count fixed.now.test * (2 + length fixed.now.test.threads) ≤ graph.new.room }
-    ensures edge_room { edges.new.room ≡ edges.old.room }
     ensures scratch_room { scratch.new ≡ scratch.old }
 {
     let mut steps = Steps::<L>::new(blank);
@@ -100,7 +100,7 @@ fn copy_of(alloc: Global, nodes: &[u32]) -> Result<Nodes, AllocError>
 pub(crate) struct Judge {
     fixed: Static,
     graph: Graph,
-    edges: Edges,
+    edges: Vec<(u32, u32)>,
     scratch: Scratch,
     order: Vec<u32>,
     run: Vec<u32>,
@@ -118,7 +118,7 @@ impl Judge {
         let nodes = fixed.graph().nodes();
         Ok(Judge {
             graph: fixed.graph_for_runs(alloc)?,
-            edges: Edges::with_room(alloc, 2 + fixed.threads())?,
+            edges: vec![in alloc; (0u32, 0u32); fixed.most_run_edges() as usize]?,
             scratch: Scratch::new(alloc, nodes)?,
             order: vec![in alloc; 0u32; nodes as usize]?,
             run: vec![in alloc; 0u32; fixed.loads() as usize]?,
