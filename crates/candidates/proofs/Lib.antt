@@ -6,3 +6,4 @@ pub mod Lookups
 pub mod RunLemmas
 pub mod CandidateLaws
 pub mod WordRows
+mod PlaceRows

@@ -425,7 +425,7 @@ finds_nothing p loads stores table t rank value lt e =
     (λ (past : length stores ≤ value). let each = t.one_row_each in finds_no_row p (load_at p rank) row value told (omega (arith, each, past)))
     (cases_lt value (length stores)) where
       no_row : LoadRow
-      no_row = record { word = 0; front = 0; base = 0; own_from = 0; own_to = 0; skips = []; count = 0 }
+      no_row = record { word = 0; front = 0; places_from = 0; base = 0; own_from = 0; own_to = 0; skips = []; count = 0 }
 
       no_store : StoreRow
       no_store = record { word = 0; place = 0 }

@@ -56,10 +56,6 @@ gives_more p run n inside has before here = (
       ap (λ b. b && has) earlier ∙ last,
 )
 
--- a load that gives no candidate's value
-pub lacks_inside : (p : Program) (run : List ℕ) (n rank : ℕ) → rank < n → (Contains (candidates_at p rank) (slice_index run rank) → ⊥) → GivesCandidates p run n → ⊥
-lacks_inside p run n rank lt lacks h = lacks (h.each rank lt)
-
 -- the test of a load
 
 reads_tells : (p : Program) (run : List ℕ) (load : ℕ) → Decides (reads_candidate p run load) (Contains (candidates p load) (value_read p run load))

@@ -1,4 +1,4 @@
-//! Candidates in tables, of a size in proportion to the test's, that answer in constant time.
+//! Candidates in tables that answer in constant time. They have a row for each store and each load, and one for each thread and value.
 ghost use Rattle.std.specs.Prelude.{◌≡◌, ◌<◌, ◌≤◌, ◌↔◌, ◌==◌, ℕ, length, position, Contains, IfOk, IfSome, IsNone, IsTrue, Some, slice_get};
 ghost use Rattle.std.specs.Bool.{OnTrue};
 ghost use Rattle.std.specs.Option.{option_map};
@@ -7,7 +7,7 @@ ghost use Rattle.test_lang.specs.Program.{IsWithinLimits};
 ghost use Rattle.test_lang.specs.Runs.{first_outside};
 ghost use Rattle.test_lang.specs.Values.{load_count};
 
-use crate::load_rows::{LoadRow, list_loads};
+use crate::load_rows::{LoadTable, list_loads};
 use crate::store_table::StoreTable;
 use std::alloc::{AllocError, Global};
 use std::marker::Model;
@@ -17,12 +17,13 @@ use test_lang::test::Test;
 #[derive(Debug, Drop)]
 pub struct Candidates {
     test: Test,
-    loads: Vec<LoadRow>,
+    loads: LoadTable,
     stores: StoreTable,
 }
 
 impl Model for Candidates {
     ghost use Rattle.test_lang.specs.Program.{Program};
+    ghost use Rattle.candidates.specs.Places.{TabulatesPlaces};
     ghost use Rattle.candidates.specs.Tables.{Tabulates};
 
     ghost Value = { Program };
@@ -30,7 +31,8 @@ impl Model for Candidates {
     ghost view = { λ c. c.test };
 
     ghost invariant = { λ c.
-        Tabulates c.test c.loads.items c.stores.rows.items c.stores.values.items };
+        Tabulates c.test c.loads.rows.items c.stores.rows.items c.stores.values.items
+        × TabulatesPlaces c.test c.loads.rows.items c.stores.rows.items c.loads.places.items };
 }
 
 impl Candidates {
@@ -62,7 +64,7 @@ impl Candidates {
         ensures some { 1 ≤ result }
         ensures few { result ≤ 2048 }
     {
-        self.loads[rank as usize].count
+        self.loads.rows[rank as usize].count
     }
 
     /// The value of the candidate at a place, counted from 0. Which place that is, is up to chance, so no step branches on it.
@@ -71,7 +73,7 @@ impl Candidates {
         requires place { place < length (candidates_at self.now rank) }
         ensures { slice_get (candidates_at self.now rank) place ≡ Some result }
     {
-        let load = &self.loads[rank as usize];
+        let load = &self.loads.rows[rank as usize];
         let other = self.stores.values[load.table_place(place)];
         [load.base, other][usize::from(place != 0)]
     }
@@ -87,18 +89,7 @@ impl Candidates {
             ≡ position (λ candidate. candidate == value) (candidates_at self.now rank) }
     {
         let store = self.stores.row(value)?;
-        self.loads[rank as usize].find(value, store)
-    }
-
-    /// The place of a candidate's value among the candidates.
-    pub fn place(&self, rank: u32, value: u32) -> u32
-        requires rank { rank < load_count self.now }
-        requires candidate { Contains (candidates_at self.now rank) value }
-        ensures { position (λ candidate. candidate == value) (candidates_at self.now rank)
-            ≡ Some result }
-    {
-        let store = self.stores.rows[value as usize];
-        self.loads[rank as usize].place(value, store)
+        self.loads.rows[rank as usize].find(value, store)
     }
 
     /// The place of a value among the candidates, which says nothing where it is no candidate's, and whether it is one's. Which
@@ -109,11 +100,12 @@ impl Candidates {
         ensures candidate { IsTrue result.1 ↔ Contains (candidates_at self.now rank) value }
         ensures place { OnTrue result.1 (position (λ candidate. candidate == value) (candidates_at self.now rank) ≡ Some result.0) }
     {
-        let Some(store) = self.stores.row(value) else {
+        if self.stores.rows.len() <= value as usize {
             return (0, false);
-        };
-        let load = &self.loads[rank as usize];
-        (load.place(value, store), load.has(value, store))
+        }
+        let load = &self.loads.rows[rank as usize];
+        let row = self.loads.places[load.places_from as usize + value as usize];
+        load.place_by_row(value, row)
     }
 
     /// Whether each load of the run gives a candidate's value. Which candidate it gives is up to chance, so no step branches on it.
@@ -121,12 +113,11 @@ impl Candidates {
         requires { length run.now ≡ load_count self.now }
         ensures { IsTrue result ↔ GivesCandidates self.now run.now (load_count self.now) }
     {
+        let loads = self.test.loads();
         let mut inside = true;
-        for (rank, value) in run.iter().enumerate() {
-            let Some(store) = self.stores.row(*value) else {
-                return false;
-            };
-            inside &= self.loads[rank].has(*value, store);
+        for rank in 0..loads {
+            let (_, is_candidate) = self.place_if_any(rank, run[rank as usize]);
+            inside &= is_candidate;
         }
         inside
     }

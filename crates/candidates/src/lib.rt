@@ -4,6 +4,7 @@
 
 mod candidate_table;
 mod load_rows;
+mod place_table;
 mod store_lists;
 mod store_table;
 #[cfg(test)]
