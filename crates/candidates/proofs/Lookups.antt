@@ -23,7 +23,7 @@ use Rattle.candidates.specs.declared.store_lists.StoreRow.{StoreRow}
 use Rattle.candidates.specs.Reading.{found_place, table_place}
 use Rattle.candidates.proofs.StoreSteps.{stores_before-short}
 use Rattle.candidates.specs.Tables.{PlacesValue, StandsBehind, Tabulates, TellsCandidates}
-use Rattle.candidates.specs.ByRank.{load_at}
+use Rattle.candidates.specs.ByRank.{FindsPlace, load_at}
 
 -- reads of parts of a list
 
@@ -98,9 +98,6 @@ some_value p x i value e =
     (omega (arith, value_is), omega (arith, value_is, few))
 
 -- the place of a value in a list, if it stands there
-
-pub record FindsPlace (xs : List ℕ) (value : ℕ) (result : Option ℕ) : Type 0 where
-  pub finds : (k : ℕ) → (result ≡ Some k) ↔ (slice_get xs k ≡ Some value)
 
 some_place : (xs : List ℕ) (value k : ℕ) → k < length xs → get_or xs k 0 ≡ value → slice_get xs k ≡ Some value
 some_place xs value k lt e = slice_get-get_or xs k 0 lt ∙ ap Some e

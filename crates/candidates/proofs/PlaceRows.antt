@@ -12,7 +12,7 @@ use Rattle.candidates.specs.declared.load_rows.LoadRow.{LoadRow}
 use Rattle.candidates.specs.declared.load_rows.OwnStores.{OwnStores}
 use Rattle.candidates.specs.declared.place_table.PlaceRow.{PlaceRow}
 use Rattle.candidates.specs.Places.{AreInThreads, IsInThread, TabulatesPlaces, TellsPlace, TellsPlaces, own_start, own_end, place_row, placed_by, placed_in}
-use Rattle.candidates.specs.Reading.{has_value, is_other, other_place, place_of}
+use Rattle.candidates.specs.Reading.{found_place, is_other, other_place}
 use Rattle.candidates.specs.Stores.{stores_to}
 use Rattle.candidates.specs.Tables.{PlacesStores, TellsBlocks}
 use Rattle.candidates.proofs.StoreSteps.{stores_before-short}
@@ -181,17 +181,15 @@ place-row p loads stores places t rank value load store row e is found lt block 
     places_for p i.thread load store row lt block i.from_is i.to_is
     (t.placed.rows_tell i.thread value store row i.in_range is (ap (λ (n : ℕ). slice_get places (n + value)) (sym i.places_are) ∙ found))
 
--- the place that is read off
-
-module _ (load : LoadRow) (value : ℕ) (store : StoreRow) (row : PlaceRow) (f : PlacesFor load store row) where
-  pub read_has : ((value == load.base) || (row.word == load.word)) ≡ has_value load value store
-  read_has = ap (λ (b : Bool). (value == load.base) || b) f.0
-
-  pub read_place : has_value load value store ≡ true → (if value == load.base then 0 else row.place) ≡ place_of load value store
-  read_place has = elim (cases_eq value load.base) [
-    | inl same ↦ let base : (value == load.base) ≡ true = eq-eqb value load.base same in rw base refl
-    | inr other ↦
-        let no_base : (value == load.base) ≡ false = ne_eqb value load.base other in
-        let here : is_other load store ≡ true = ap (λ (b : Bool). b || is_other load store) (sym no_base) ∙ has in
-        rw no_base (f.1 here)
-  ]
+-- what is read off
+pub read_place : (load : LoadRow) (value : ℕ) (store : StoreRow) (row : PlaceRow) → PlacesFor load store row →
+    (if ((value == load.base) || (row.word == load.word)) then Some (if value == load.base then 0 else row.place) else None) ≡ found_place load value store
+read_place load value store row f = elim (cases_eq value load.base) [
+  | inl same ↦ let base : (value == load.base) ≡ true = eq-eqb value load.base same in rw base refl
+  | inr other ↦
+      let no_base : (value == load.base) ≡ false = ne_eqb value load.base other in
+      rw (no_base, f.0) (by_other (is_other load store) refl)
+] where
+  by_other : (other : Bool) → is_other load store ≡ other → (if other then Some row.place else None) ≡ (if other then Some (other_place load store) else None)
+  by_other true e = ap Some (f.1 e)
+  by_other false e = refl

@@ -1,5 +1,5 @@
 -- The first load of a run whose value is no candidate's.
-use Rattle.std.proofs.Common.{length, ◌≡◌, ◌∙◌, ◌↔◌, ℕ, ◌+◌, ◌<◌, ◌≤◌, List, Bool, true, false, not, ◌&&◌, cond, get_or, Contains, Option, None, Some, refl, ap, arith, sym, subst, ⊎_elim}
+use Rattle.std.proofs.Common.{length, ◌≡◌, ◌∙◌, ◌↔◌, ℕ, ◌+◌, ◌<◌, ◌≤◌, List, Bool, true, false, not, ◌&&◌, get_or, Contains, Option, None, Some, refl, ap, arith, sym, subst, ⊎_elim}
 use Rattle.std.specs.Prelude.{◌==◌, if◌then◌else◌, position, IsTrue, slice_get, slice_index}
 use Rattle.std.specs.List.{list_any, position_or_len}
 use Rattle.std.specs.Option.{is_some}
@@ -14,27 +14,19 @@ use Rattle.test_lang.specs.Program.{Program}
 use Rattle.test_lang.specs.Values.{load_count, load_nodes}
 use Rattle.test_lang.specs.Runs.{candidates, value_read, reads_candidate, first_outside}
 use Rattle.test_lang.proofs.Ranks.{length-load_nodes, load_nodes-rank}
-use Rattle.candidates.specs.declared.load_rows.LoadRow.{LoadRow}
-use Rattle.candidates.specs.declared.store_lists.StoreRow.{StoreRow}
-use Rattle.candidates.specs.ByRank.{GivesCandidates, candidates_at, load_at}
-use Rattle.candidates.specs.Reading.{found_place, has_value, place_of}
-use Rattle.candidates.proofs.Lookups.{FindsPlace, finds-lacks, finds-contains, finds-position}
+use Rattle.candidates.specs.ByRank.{FindsPlace, GivesCandidates, candidates_at, load_at}
+use Rattle.candidates.proofs.Lookups.{finds-lacks, finds-contains, finds-position}
 
 -- whether the value of a row is a candidate's
 
-tells : (xs : List ℕ) (value place : ℕ) (has : Bool) → FindsPlace xs value (if has then Some place else None) → IsTrue has ↔ Contains xs value
+pub tells : (xs : List ℕ) (value place : ℕ) (has : Bool) → FindsPlace xs value (if has then Some place else None) → IsTrue has ↔ Contains xs value
 tells xs value place true f = (λ h. finds-contains xs value place f, λ h. refl)
 tells xs value place false f = (λ h. absurd cc, λ h. absurd (finds-lacks xs value f h))
 
-pub has_value_tells : (xs : List ℕ) (row : LoadRow) (value : ℕ) (store : StoreRow) → FindsPlace xs value (found_place row value store) → IsTrue (has_value row value store) ↔ Contains xs value
-has_value_tells xs row value store f = tells xs value (place_of row value store) (has_value row value store) f
-
 -- its place, where it is one's
-pub place_told : (xs : List ℕ) (row : LoadRow) (value : ℕ) (store : StoreRow) → FindsPlace xs value (found_place row value store) → (has : Bool) (place : ℕ) → has ≡ has_value row value store
-    → (has_value row value store ≡ true → place ≡ place_of row value store) → OnTrue has (position (λ candidate. candidate == value) xs ≡ Some place)
-place_told xs row value store f true place h e =
-    sym (finds-position xs value (found_place row value store) f) ∙ ap (λ (b : Bool). cond b (Some (place_of row value store)) None) (sym h) ∙ ap Some (sym (e (sym h)))
-place_told xs row value store f false place h e = tt
+pub place_told : (xs : List ℕ) (value place : ℕ) (has : Bool) → FindsPlace xs value (if has then Some place else None) → OnTrue has (position (λ candidate. candidate == value) xs ≡ Some place)
+place_told xs value place true f = sym (finds-position xs value (Some place) f)
+place_told xs value place false f = tt
 
 pub gives_none : (p : Program) (run : List ℕ) → IsTrue true ↔ GivesCandidates p run 0
 gives_none p run = (λ h. record { each = λ rank lt. absurd (omega (arith, lt)) }, λ h. refl)

@@ -1,8 +1,8 @@
 //! Candidates in tables that answer in constant time. They have a row for each store and each load, and one for each thread and value.
-ghost use Rattle.std.specs.Prelude.{◌≡◌, ◌<◌, ◌≤◌, ◌↔◌, ◌==◌, ℕ, length, position, Contains, IfOk, IfSome, IsNone, IsTrue, Some, slice_get};
+ghost use Rattle.std.specs.Prelude.{◌≡◌, ◌<◌, ◌≤◌, ◌↔◌, ◌==◌, ℕ, length, position, Contains, IfOk, IfSome, IsNone, IsTrue, None, Some, if◌then◌else◌, slice_get};
 ghost use Rattle.std.specs.Bool.{OnTrue};
 ghost use Rattle.std.specs.Option.{option_map};
-ghost use Rattle.candidates.specs.ByRank.{GivesCandidates, candidates_at, load_at};
+ghost use Rattle.candidates.specs.ByRank.{FindsPlace, GivesCandidates, candidates_at, load_at};
 ghost use Rattle.test_lang.specs.Program.{IsWithinLimits};
 ghost use Rattle.test_lang.specs.Runs.{first_outside};
 ghost use Rattle.test_lang.specs.Values.{load_count};
@@ -78,6 +78,21 @@ impl Candidates {
         [load.base, other][usize::from(place != 0)]
     }
 
+    /// The place of a value among the candidates, which says nothing where it is no candidate's, and whether it is one's.
+    #[inline(always)]
+    fn find(&self, rank: u32, value: u32) -> (u32, bool)
+        requires { rank < load_count self.now }
+        ensures { FindsPlace (candidates_at self.now rank) value
+            (if result.1 then Some result.0 else None) }
+    {
+        if self.stores.rows.len() <= value as usize {
+            return (0, false);
+        }
+        let load = &self.loads.rows[rank as usize];
+        let row = self.loads.places[load.places_from as usize + value as usize];
+        load.place_by_row(value, row)
+    }
+
     /// The place of a value among the candidates.
     pub fn index(&self, rank: u32, value: u32) -> Option<u32>
         requires { rank < load_count self.now }
@@ -88,8 +103,8 @@ impl Candidates {
         ensures position { result
             ≡ position (λ candidate. candidate == value) (candidates_at self.now rank) }
     {
-        let store = self.stores.row(value)?;
-        self.loads.rows[rank as usize].find(value, store)
+        let (place, is_candidate) = self.find(rank, value);
+        if is_candidate { Some(place) } else { None }
     }
 
     /// The place of a value among the candidates, which says nothing where it is no candidate's, and whether it is one's. Which
@@ -100,12 +115,7 @@ impl Candidates {
         ensures candidate { IsTrue result.1 ↔ Contains (candidates_at self.now rank) value }
         ensures place { OnTrue result.1 (position (λ candidate. candidate == value) (candidates_at self.now rank) ≡ Some result.0) }
     {
-        if self.stores.rows.len() <= value as usize {
-            return (0, false);
-        }
-        let load = &self.loads.rows[rank as usize];
-        let row = self.loads.places[load.places_from as usize + value as usize];
-        load.place_by_row(value, row)
+        self.find(rank, value)
     }
 
     /// Whether each load of the run gives a candidate's value. Which candidate it gives is up to chance, so no step branches on it.

@@ -1,6 +1,6 @@
 //! What the candidates of each load are, told by a few numbers.
-ghost use Rattle.std.specs.Prelude.{◌≡◌, ◌+◌, ◌-◌, ◌*◌, ◌^◌, ◌<◌, ◌≤◌, [], ◌∷◌, ◌==◌, ◌||◌, if◌then◌else◌, IfOk, OnOk, IsTrue, length, map};
-ghost use Rattle.candidates.specs.Reading.{found_place, has_value, place_of, table_place};
+ghost use Rattle.std.specs.Prelude.{◌≡◌, ◌+◌, ◌-◌, ◌*◌, ◌^◌, ◌<◌, ◌≤◌, [], ◌∷◌, ◌==◌, ◌||◌, if◌then◌else◌, IfOk, OnOk, length, map};
+ghost use Rattle.candidates.specs.Reading.{table_place};
 ghost use Rattle.candidates.specs.Places.{AreInThreads, TabulatesPlaces};
 ghost use Rattle.candidates.specs.Tables.{PlacesStores, TellsBlocks, TellsLoads, TellsWords};
 ghost use Rattle.test_lang.specs.Program.{first_node, op_count, thread_length};
@@ -34,25 +34,6 @@ pub(crate) struct LoadRow {
 }
 
 impl LoadRow {
-    /// Whether a value, the row of which is that, is a candidate's. Which candidate a load gives is up to chance, so no step branches on it.
-    pub fn has(&self, value: u32, store: StoreRow) -> bool
-        ensures { result ≡ has_value self.now value store }
-    {
-        let is_other = (store.place < self.own_from) | (self.own_to <= store.place);
-        (value == self.base) | ((store.word == self.word) & is_other)
-    }
-
-    /// The place of a candidate's value; another value's says nothing. Which candidate a load gives is up to chance, so no
-    /// step branches on it.
-    pub fn place(&self, value: u32, store: StoreRow) -> u32
-        requires skips { self.now.skips ≡ 0 ∷ (self.now.own_to - self.now.own_from) ∷ [] }
-        requires room { store.place + 1 < 2 ^ 32 }
-        ensures { IsTrue (has_value self.now value store) → result ≡ place_of self.now value store }
-    {
-        let skip = self.skips[usize::from(self.own_from <= store.place)];
-        u32::from(value != self.base) * store.place.wrapping_sub(skip).wrapping_add(1)
-    }
-
     /// The place of a value, which stands there among those of the load's thread, and whether it is a candidate's; the place of another
     /// value says nothing. Which candidate a load gives is up to chance, so no step branches on it.
     #[inline(always)]
@@ -64,19 +45,6 @@ impl LoadRow {
         let is_base = value == self.base;
         let place = u32::from(!is_base) * row.place;
         (place, is_base | (row.word == self.word))
-    }
-
-    /// The place of a value, if it is a candidate's.
-    pub fn find(&self, value: u32, store: StoreRow) -> Option<u32>
-        requires skips { self.now.skips ≡ 0 ∷ (self.now.own_to - self.now.own_from) ∷ [] }
-        requires room { store.place + 1 < 2 ^ 32 }
-        ensures { result ≡ found_place self.now value store }
-    {
-        if self.has(value, store) {
-            Some(self.place(value, store))
-        } else {
-            None
-        }
     }
 
     /// Where the candidate at a place behind the first stands in the table of stores. The table has a place for the first as well,

@@ -1,41 +1,25 @@
-use Rattle.std.proofs.Common.{sym, arith}
-use Rattle.test_lang.specs.Runs.{candidates}
-use Rattle.candidates.specs.ByRank.{load_at}
-use Rattle.candidates.proofs.Lookups.{FindsPlace, row_told, tables_of, short_place, finds_value, finds_nothing, finds-none, finds-position}
+use Rattle.std.proofs.Common.{Bool, None, Some, subst}
+use Rattle.std.specs.Prelude.{if◌then◌else◌}
+use Rattle.candidates.specs.ByRank.{FindsPlace, candidates_at}
+use Rattle.candidates.proofs.Lookups.{finds-none, finds-position}
 use Rattle.candidates.proofs.candidate_table.Candidates.index.Goals as goal
 
-pub find-requires : goal.find-requires
-find-requires c =
-    let p = c.args.self.now in
-    let i = c.self.inside in
-    let tables = tables_of i.test p i.loads.rows.items i.stores.rows.items i.stores.values.items c.self.view_is c.self.invariant.0 in
-    let told = row_told p i.loads.rows.items i.stores.rows.items i.stores.values.items tables c.args.rank c.index.result.now c.requires c.index.ensures in
-    let short = short_place p i.loads.rows.items i.stores.rows.items i.stores.values.items tables c.args.value c.in_ok-store.store (sym c.in_ok-store.ensures) in
-    record { skips = told.skips_are; room = omega (arith, short) }
+-- where the value is a candidate's
+here : (c : goal.Then-is_candidate) → FindsPlace (candidates_at c.args.self.now c.args.rank) c.args.value (Some c.find-place.result.0)
+here c = subst (λ (b : Bool). FindsPlace (candidates_at c.args.self.now c.args.rank) c.args.value (if b then Some c.find-place.result.0 else None)) c.if-is_candidate.true c.find-place.ensures
 
-pub returns-in_err-store : goal.returns-in_err-store
-returns-in_err-store c =
-    let p = c.args.self.now in
-    let i = c.self.inside in
-    let tables = tables_of i.test p i.loads.rows.items i.stores.rows.items i.stores.values.items c.self.view_is c.self.invariant.0 in
-    let f : FindsPlace (candidates p (load_at p c.args.rank)) c.args.value c.from_residual.result =
-    rw c.from_residual.ensures (finds_nothing p i.loads.rows.items i.stores.rows.items i.stores.values.items tables c.args.rank c.args.value c.requires (sym c.in_err-store.ensures)) in
-    record {
-      found = f.finds;
-      none = finds-none (candidates p (load_at p c.args.rank)) c.args.value c.from_residual.result f;
-      position = finds-position (candidates p (load_at p c.args.rank)) c.args.value c.from_residual.result f;
-    }
+pub returns-then-is_candidate-clause-none : goal.returns-then-is_candidate-clause-none
+returns-then-is_candidate-clause-none c = finds-none (candidates_at c.args.self.now c.args.rank) c.args.value (Some c.find-place.result.0) (here c)
 
-pub returns : goal.returns
-returns c =
-    let p = c.args.self.now in
-    let i = c.self.inside in
-    let tables = tables_of i.test p i.loads.rows.items i.stores.rows.items i.stores.values.items c.self.view_is c.self.invariant.0 in
-    let f : FindsPlace (candidates p (load_at p c.args.rank)) c.args.value c.find.result =
-    rw c.find.ensures
-    (finds_value p i.loads.rows.items i.stores.rows.items i.stores.values.items tables c.args.rank c.index.result.now c.args.value c.in_ok-store.store c.requires c.index.ensures (sym c.in_ok-store.ensures)) in
-    record {
-      found = f.finds;
-      none = finds-none (candidates p (load_at p c.args.rank)) c.args.value c.find.result f;
-      position = finds-position (candidates p (load_at p c.args.rank)) c.args.value c.find.result f;
-    }
+pub returns-then-is_candidate-clause-position : goal.returns-then-is_candidate-clause-position
+returns-then-is_candidate-clause-position c = finds-position (candidates_at c.args.self.now c.args.rank) c.args.value (Some c.find-place.result.0) (here c)
+
+-- where it is none's
+nowhere : (c : goal.Else-is_candidate) → FindsPlace (candidates_at c.args.self.now c.args.rank) c.args.value None
+nowhere c = subst (λ (b : Bool). FindsPlace (candidates_at c.args.self.now c.args.rank) c.args.value (if b then Some c.find-place.result.0 else None)) c.if-is_candidate.false c.find-place.ensures
+
+pub returns-else-is_candidate-clause-none : goal.returns-else-is_candidate-clause-none
+returns-else-is_candidate-clause-none c = finds-none (candidates_at c.args.self.now c.args.rank) c.args.value None (nowhere c)
+
+pub returns-else-is_candidate-clause-position : goal.returns-else-is_candidate-clause-position
+returns-else-is_candidate-clause-position c = finds-position (candidates_at c.args.self.now c.args.rank) c.args.value None (nowhere c)
