@@ -7,3 +7,4 @@ pub mod RunLemmas
 pub mod CandidateLaws
 pub mod WordRows
 mod PlaceRows
+mod Reading

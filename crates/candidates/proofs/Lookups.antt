@@ -20,7 +20,8 @@ use Rattle.test_lang.proofs.Ranks.{one_store, value_of-le}
 use Rattle.candidates.specs.declared.load_rows.LoadRow.{LoadRow}
 use Rattle.candidates.specs.Stores.{stores_to}
 use Rattle.candidates.specs.declared.store_lists.StoreRow.{StoreRow}
-use Rattle.candidates.specs.Reading.{found_place, table_place}
+use Rattle.candidates.specs.Reading.{table_place}
+use Rattle.candidates.proofs.Reading.{found_place}
 use Rattle.candidates.proofs.StoreSteps.{stores_before-short}
 use Rattle.candidates.specs.Tables.{PlacesValue, StandsBehind, Tabulates, TellsCandidates}
 use Rattle.candidates.specs.ByRank.{FindsPlace, load_at}
@@ -391,18 +392,6 @@ module _ (p : Program) (loads : List LoadRow) (stores : List StoreRow) (table : 
     of_store = λ some. t.stores_placed.rows_place value store some e;
     of_none = λ none. ap (λ (r : StoreRow). r.word) (initial_row value store none e);
   }
-
-  -- places are small
-  pub short_place : (value : ℕ) (store : StoreRow) → slice_get stores value ≡ Some store → store.place ≤ 2048
-  short_place value store e =
-      let operations = t.limits.operations in
-      ⊎_elim
-      (λ (some : 0 < value).
-      let stands = slice_get_within (stores_to p store.word) store.place value (t.stores_placed.rows_place value store some e).stands in
-      let short = stores_before-short p store.word (op_count p) in
-      omega (arith, operations, stands, short))
-      (λ (none : value ≤ 0). let place = ap (λ (r : StoreRow). r.place) (initial_row value store (omega (arith, none)) e) in omega (arith, place))
-      (cases_lt 0 value)
 
 -- The place of a value, from the rows.
 pub finds_value : (p : Program) (loads : List LoadRow) (stores : List StoreRow) (table : List ℕ) (t : Tabulates p loads stores table) (rank : ℕ) (row : LoadRow) (value : ℕ) (store : StoreRow) → rank < load_count p

@@ -12,7 +12,7 @@ use Rattle.candidates.specs.declared.load_rows.LoadRow.{LoadRow}
 use Rattle.candidates.specs.declared.load_rows.OwnStores.{OwnStores}
 use Rattle.candidates.specs.declared.place_table.PlaceRow.{PlaceRow}
 use Rattle.candidates.specs.Places.{AreInThreads, IsInThread, TabulatesPlaces, TellsPlace, TellsPlaces, own_start, own_end, place_row, placed_by, placed_in}
-use Rattle.candidates.specs.Reading.{found_place, is_other, other_place}
+use Rattle.candidates.proofs.Reading.{found_place, is_other, other_place}
 use Rattle.candidates.specs.Stores.{stores_to}
 use Rattle.candidates.specs.Tables.{PlacesStores, TellsBlocks}
 use Rattle.candidates.proofs.StoreSteps.{stores_before-short}

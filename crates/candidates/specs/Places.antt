@@ -31,7 +31,7 @@ own_start p thread x = length (stores_before p x (first_node p thread))
 abbrev pub own_end : Program → ℕ → ℕ → ℕ
 own_end p thread x = length (stores_before p x (first_node p thread + thread_length p thread))
 
--- The row is that of a store's value, for the thread.
+-- The row is that of a value, for the thread. That of the initial value names no word of the test.
 pub record TellsPlace (p : Program) (thread : ℕ) (store : StoreRow) (row : PlaceRow) : Type 0 where
   pub of_store : store.word < p.words → row ≡ place_row p.words (own_start p thread store.word) (own_end p thread store.word) store
   pub of_none : p.words ≤ store.word → row.word ≡ store.word

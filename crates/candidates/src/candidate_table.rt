@@ -78,21 +78,6 @@ impl Candidates {
         [load.base, other][usize::from(place != 0)]
     }
 
-    /// The place of a value among the candidates, which says nothing where it is no candidate's, and whether it is one's.
-    #[inline(always)]
-    fn find(&self, rank: u32, value: u32) -> (u32, bool)
-        requires { rank < load_count self.now }
-        ensures { FindsPlace (candidates_at self.now rank) value
-            (if result.1 then Some result.0 else None) }
-    {
-        if self.stores.rows.len() <= value as usize {
-            return (0, false);
-        }
-        let load = &self.loads.rows[rank as usize];
-        let row = self.loads.places[load.places_from as usize + value as usize];
-        load.place_by_row(value, row)
-    }
-
     /// The place of a value among the candidates.
     pub fn index(&self, rank: u32, value: u32) -> Option<u32>
         requires { rank < load_count self.now }
@@ -103,7 +88,7 @@ impl Candidates {
         ensures position { result
             ≡ position (λ candidate. candidate == value) (candidates_at self.now rank) }
     {
-        let (place, is_candidate) = self.find(rank, value);
+        let (place, is_candidate) = self.place_if_any(rank, value);
         if is_candidate { Some(place) } else { None }
     }
 
@@ -113,9 +98,19 @@ impl Candidates {
     pub fn place_if_any(&self, rank: u32, value: u32) -> (u32, bool)
         requires { rank < load_count self.now }
         ensures candidate { IsTrue result.1 ↔ Contains (candidates_at self.now rank) value }
-        ensures place { OnTrue result.1 (position (λ candidate. candidate == value) (candidates_at self.now rank) ≡ Some result.0) }
+        ensures place { OnTrue result.1
+            (position (λ candidate. candidate == value) (candidates_at self.now rank)
+            ≡ Some result.0) }
+        // Both in one.
+        ensures found { FindsPlace (candidates_at self.now rank) value
+            (if result.1 then Some result.0 else None) }
     {
-        self.find(rank, value)
+        if self.stores.rows.len() <= value as usize {
+            return (0, false);
+        }
+        let load = &self.loads.rows[rank as usize];
+        let row = self.loads.places[load.places_from as usize + value as usize];
+        load.place_by_row(value, row)
     }
 
     /// Whether each load of the run gives a candidate's value. Which candidate it gives is up to chance, so no step branches on it.

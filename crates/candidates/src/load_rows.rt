@@ -25,7 +25,7 @@ pub(crate) struct LoadRow {
     pub base: u32,
     /// Where the block begins in the word's list of stores.
     pub own_from: u32,
-    /// Where it ends.
+    /// Where it ends. Contracts alone read it.
     pub own_to: u32,
     /// How many stores are left out in front of a store before the block, and of one behind it.
     pub skips: [u32; 2],

@@ -1,5 +1,5 @@
 //! The stores to all words in one table.
-ghost use Rattle.std.specs.Prelude.{◌≡◌, ◌+◌, IfOk, length, slice_get};
+ghost use Rattle.std.specs.Prelude.{◌≡◌, ◌+◌, IfOk, length};
 ghost use Rattle.candidates.specs.Tables.{PlacesStores, TellsWords};
 ghost use Rattle.test_lang.specs.Program.{IsWithinLimits, op_count};
 ghost use Rattle.test_lang.specs.Values.{store_count};
@@ -54,12 +54,5 @@ impl StoreTable {
             words,
             values,
         })
-    }
-
-    /// The row of a value, if it is that of a store or the initial one.
-    pub fn row(&self, value: u32) -> Option<StoreRow>
-        ensures { result ≡ slice_get self.now.rows.items value }
-    {
-        self.rows.get(value as usize).copied()
     }
 }

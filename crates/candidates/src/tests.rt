@@ -114,6 +114,8 @@ fn check_load(rt: &impl Abort, candidates: &Candidates, rank: u32, list: &[u32],
             place,
             "rank {rank} value {value}"
         );
+        let (at, is_candidate) = candidates.place_if_any(rank, value);
+        assert_eq!(rt; is_candidate.then_some(at), found);
     }
     assert_eq!(rt; candidates.index(rank, u32::MAX), None);
 }

@@ -5,8 +5,8 @@ use Rattle.std.proofs.Math.Nat.{min-eq_left, min-eq_right}
 use Rattle.std.proofs.lemmas.Bool.{cases_eq, cases_lt, eq-eqb}
 use Rattle.std.proofs.lemmas.List.{length-set, length-map, length-replicate, get_or_past, get_or-replicate, map-append, append-nil, get_or_append_left, get_or-append_right, length-append}
 use Rattle.std.proofs.lemmas.List.Elements.{filter-append}
-use Rattle.std.proofs.lemmas.List.Sums.{count_by-le-length, length-filter, sum_by_push}
-use Rattle.digraph.specs.AtHand.{AreAtHand, HasNear, HasDegrees}
+use Rattle.std.proofs.lemmas.List.Sums.{length-filter, sum_by_push}
+use Rattle.digraph.specs.AtHand.{TellAtHand, HasNear, HasDegrees}
 use Rattle.digraph.specs.Digraph.{in_degree, out_degree, targets_from}
 
 -- as many targets as edges
@@ -163,8 +163,8 @@ degrees-begin n degree none = record {
 }
 
 -- an edge more in all arrays
-pub at_hand-push : (n : ℕ) (es : List (ℕ × ℕ)) (near outs ins : List ℕ) → AreAtHand n es near outs ins → (a b : ℕ) → a < n → b < n →
-    AreAtHand n (es ++ (a, b) ∷ []) (set near (4 * a + min (get_or outs a 0) 3) b) (set outs a (get_or outs a 0 + 1)) (set ins b (get_or ins b 0 + 1))
+pub at_hand-push : (n : ℕ) (es : List (ℕ × ℕ)) (near outs ins : List ℕ) → TellAtHand n es near outs ins → (a b : ℕ) → a < n → b < n →
+    TellAtHand n (es ++ (a, b) ∷ []) (set near (4 * a + min (get_or outs a 0) 3) b) (set outs a (get_or outs a 0 + 1)) (set ins b (get_or ins b 0 + 1))
 at_hand-push n es near outs ins h a b from to =
     let degree : get_or outs a 0 ≡ out_degree es a = h.outs.at a from in
     let into : get_or ins b 0 ≡ in_degree es b = h.ins.at b to in
@@ -175,19 +175,6 @@ at_hand-push n es near outs ins h a b from to =
       ins = degrees-set n (in_degree es) (in_degree (es ++ (a, b) ∷ [])) ins b to (in-push_other es a b) (get_or ins b 0 + 1)
           (let same = in-push_same es a b in omega (arith, same, into)) h.ins;
     }
-
--- a degree is at most the number of edges
-pub out-few : (n : ℕ) (es : List (ℕ × ℕ)) (near outs ins : List ℕ) → AreAtHand n es near outs ins → (node : ℕ) → node < n → get_or outs node 0 ≤ length es
-out-few n es near outs ins h node lt =
-    let at = h.outs.at node lt in
-    let most = count_by-le-length (λ (e : ℕ × ℕ). eqb e.0 node) es in
-    omega (arith, at, most)
-
-pub in-few : (n : ℕ) (es : List (ℕ × ℕ)) (near outs ins : List ℕ) → AreAtHand n es near outs ins → (node : ℕ) → node < n → get_or ins node 0 ≤ length es
-in-few n es near outs ins h node lt =
-    let at = h.ins.at node lt in
-    let most = count_by-le-length (λ (e : ℕ × ℕ). eqb e.1 node) es in
-    omega (arith, at, most)
 
 -- one count is raised by one
 pub raised : (counts : List ℕ) (a : ℕ) → a < length counts → (node : ℕ) → get_or (set counts a (get_or counts a 0 + 1)) node 0 ≤ get_or counts node 0 + 1

@@ -131,15 +131,6 @@ module _ (end : ℕ × ℕ → ℕ) (edges : List (ℕ × ℕ)) (first i place :
         kinds = k.kinds ∙ h.kinds;
       })
 
--- no row more
-pub puts-none : (first : ℕ) (links : List Link) (last : List ℕ) → IsLinked first (keys_of links) last (previous_of links) → PutsKeys first [] links last links last
-puts-none first links last l = record {
-  linked = subst (λ (n : ℕ). IsLinked n (keys_of links) last (previous_of links)) {y = first + 0} (omega arith) l;
-  keys = ap (λ (n : ℕ). take n (keys_of links)) {x = first + 0} {y = first} (omega arith) ∙ sym (append-nil (take first (keys_of links)));
-  room = refl;
-  kinds = refl;
-}
-
 -- one row more
 module _ (count : ℕ) (links : List Link) (last : List ℕ) (key before : ℕ) (room : count < length links) (l : IsLinked count (keys_of links) last (previous_of links)) (kind : key < length last) (is : before ≡ get_or last key 0) where
   pub puts-one : PutsKeys count (key ∷ []) links last (set links count (record { key = key; previous = before })) (set last key count)

@@ -56,11 +56,6 @@ module _ (s t : KeyList) (pair : ArePaired s t) (g : Digraph) (view : digraph_of
       ap (λ (es : List (ℕ × ℕ)). with_edges (digraph_of s t) es) (zip-push_all s.keys t.keys more pair.count)
       ∙ ap (λ (g : Digraph). with_edges g (g.edges ++ more)) view
 
-  pub viewed-begun : (s0 t0 : KeyList) (g0 : Digraph) → digraph_of s0 t0 ≡ g0 → digraph_of (record s { keys = s0.keys }) (record t { keys = t0.keys }) ≡ record g { edges = g0.edges }
-  viewed-begun s0 t0 g0 view0 =
-      ap (λ (g : Digraph). with_edges (digraph_of s t) g.edges) view0
-      ∙ ap (λ (g : Digraph). with_edges g g0.edges) view
-
   -- where the edges begin with those of another graph, so do their ends
   pub viewed-begins : (s0 t0 : KeyList) → ArePaired s0 t0 → (g0 : Digraph) → digraph_of s0 t0 ≡ g0 → take (length g0.edges) g.edges ≡ g0.edges →
       (take (length s0.keys) s.keys ≡ s0.keys) × (take (length t0.keys) t.keys ≡ t0.keys)

@@ -3,7 +3,7 @@ use Rattle.std.proofs.Common.{◌≡◌, ◌∙◌, ℕ, ◌+◌, ◌-◌, ◌*�
 use Rattle.std.specs.List.{zip}
 use Rattle.std.specs.Prelude.{replicate}
 use Rattle.std.proofs.lemmas.List.{length-append, length-map, length-take-le, take_all, take_more}
-use Rattle.digraph.specs.AtHand.{AreAtHand, HasNear}
+use Rattle.digraph.specs.AtHand.{TellAtHand, HasNear}
 use Rattle.digraph.specs.Digraph.{in_degree, out_degree, source_of, target_of}
 use Rattle.digraph.specs.KeyList.{KeyList, IsKeyList, IsGraph}
 use Rattle.digraph.proofs.AtHand.{at_hand-push, near-begin, near-pop, degrees-begin, degrees-set, in-push_other, in-push_same, out-push_other, out-push_same}
@@ -114,7 +114,7 @@ module _ (s t : KeyList) (near outs ins : List ℕ) (g : IsGraph s t near outs i
 -- more edges
 module _ (s t : KeyList) (near outs ins : List ℕ) (g : IsGraph s t near outs ins) (es : List (ℕ × ℕ)) where
   pub graph-push_all : (s' t' : KeyList) → s' ≡ record s { keys = s.keys ++ map (λ e. e.0) es } → t' ≡ record t { keys = t.keys ++ map (λ e. e.1) es } → IsKeyList s' → IsKeyList t' →
-      (near' outs' ins' : List ℕ) → AreAtHand s.kinds (zip s.keys t.keys ++ es) near' outs' ins' → IsGraph s' t' near' outs' ins'
+      (near' outs' ins' : List ℕ) → TellAtHand s.kinds (zip s.keys t.keys ++ es) near' outs' ins' → IsGraph s' t' near' outs' ins'
   graph-push_all s' t' more_s more_t sound_s sound_t near' outs' ins' at_hand =
       let count = g.paired.count in
       let long_s = length-append s.keys (map (λ (e : ℕ × ℕ). e.0) es) in
@@ -130,19 +130,4 @@ module _ (s t : KeyList) (near outs ins : List ℕ) (g : IsGraph s t near outs i
           count = omega (arith, count, long_s, long_t, sources, targets);
         };
         at_hand = rw (zip-push_all s.keys t.keys es g.paired.count) at_hand;
-      })
-
--- the edges of another graph, with which this one begins
-module _ (s t : KeyList) (near outs ins : List ℕ) (g : IsGraph s t near outs ins) (s0 t0 : KeyList) (near0 outs0 ins0 : List ℕ) (g0 : IsGraph s0 t0 near0 outs0 ins0) (kinds : s0.kinds ≡ s.kinds) where
-  pub graph-begun : (s' t' : KeyList) → s' ≡ record s { keys = s0.keys } → t' ≡ record t { keys = t0.keys } → IsKeyList s' → IsKeyList t' → IsGraph s' t' near0 outs0 ins0
-  graph-begun s' t' less_s less_t sound_s sound_t =
-      rw (less_s, less_t) (record {
-        paired = record {
-          sound_sources = subst IsKeyList less_s sound_s;
-          sound_targets = subst IsKeyList less_t sound_t;
-          kinds = g.paired.kinds;
-          room = g.paired.room;
-          count = g0.paired.count;
-        };
-        at_hand = rw (sym kinds) g0.at_hand;
       })

@@ -13,7 +13,7 @@ pub record HasDegrees (nodes : ℕ) (degree : ℕ → ℕ) (counts : List ℕ) :
   pub at : (node : ℕ) → node < nodes → slice_index counts node ≡ degree node
 
 -- The arrays tell what is at hand of the edges.
-pub record AreAtHand (nodes : ℕ) (edges : List (ℕ × ℕ)) (near_targets out_degrees in_degrees : List ℕ) : Type 0 where
+pub record TellAtHand (nodes : ℕ) (edges : List (ℕ × ℕ)) (near_targets out_degrees in_degrees : List ℕ) : Type 0 where
   pub near : HasNear nodes edges near_targets
   pub outs : HasDegrees nodes (out_degree edges) out_degrees
   pub ins : HasDegrees nodes (in_degree edges) in_degrees

@@ -1,7 +1,7 @@
 -- A list of keys, in which each is linked to the place before it that has the same key.
 use Rattle.std.specs.Prelude.{◌≡◌, ◌==◌, ℕ, ◌^◌, ◌<◌, ◌≤◌, List, Option, Some, None, All, if◌then◌else◌, length, take, slice_index}
 use Rattle.std.specs.List.{zip}
-use Rattle.digraph.specs.AtHand.{AreAtHand}
+use Rattle.digraph.specs.AtHand.{TellAtHand}
 use Rattle.digraph.specs.Digraph.{Digraph, IsLastBelow}
 use Rattle.digraph.specs.declared.links.TheConstants.{NONE}
 
@@ -37,7 +37,7 @@ digraph_of sources targets = record { nodes = sources.kinds; room = sources.room
 -- The arrays tell of the edges with these ends.
 pub record IsGraph (sources targets : KeyList) (near_targets out_degrees in_degrees : List ℕ) : Type 0 where
   pub paired : ArePaired sources targets
-  pub at_hand : AreAtHand sources.kinds (zip sources.keys targets.keys) near_targets out_degrees in_degrees
+  pub at_hand : TellAtHand sources.kinds (zip sources.keys targets.keys) near_targets out_degrees in_degrees
 
 -- the place that a link stands for
 abbrev pub place_of : ℕ → Option ℕ

@@ -1,6 +1,6 @@
 //! What is at hand of the edges from each node and to each node.
 ghost use Rattle.std.specs.Prelude.{◌≡◌, ℕ, List, ◌+◌, ◌*◌, ◌<◌, ◌^◌, ◌++◌, length, slice_index, slice_set, min, All};
-ghost use Rattle.digraph.specs.AtHand.{AreAtHand};
+ghost use Rattle.digraph.specs.AtHand.{TellAtHand};
 
 /// So many targets of a node are at hand.
 pub const NEAR: usize = 3;
@@ -14,7 +14,7 @@ pub fn near_place(node: u32, before: u32) -> usize
 
 /// Counts an edge at its ends, and puts its target at hand.
 #[inline(always)]
-pub fn count_edge(
+pub fn put_at_hand(
     from: u32,
     to: u32,
     near: &mut [u32],
@@ -40,7 +40,7 @@ pub fn count_edge(
 }
 
 /// Counts edges at their ends, and puts their targets at hand, in their order.
-pub fn count_edges(
+pub fn put_all_at_hand(
     edges: &[(u32, u32)],
     near: &mut [u32],
     out_degrees: &mut [u32],
@@ -55,11 +55,12 @@ pub fn count_edges(
     requires few_in { (node : ℕ) → node < length out_degrees.old →
         slice_index in_degrees.old node + length edges.now < 2 ^ 32 }
     ensures { (before : List (ℕ × ℕ)) →
-        AreAtHand (length out_degrees.old) before near.old out_degrees.old in_degrees.old →
-        AreAtHand (length out_degrees.old) (before ++ edges.now) near.new out_degrees.new in_degrees.new }
+        TellAtHand (length out_degrees.old) before near.old out_degrees.old in_degrees.old →
+        TellAtHand (length out_degrees.old) (before ++ edges.now)
+        near.new out_degrees.new in_degrees.new }
 {
     for edge in edges {
         let (from, to) = *edge;
-        count_edge(from, to, near, out_degrees, in_degrees);
+        put_at_hand(from, to, near, out_degrees, in_degrees);
     }
 }

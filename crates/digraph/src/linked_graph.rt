@@ -2,7 +2,7 @@
 ghost use Rattle.std.specs.Prelude.{◌≡◌, ℕ, ◌+◌, ◌-◌, ◌*◌, ◌<◌, ◌≤◌, [], ◌∷◌, ◌++◌, length, slice_index, slice_index_or, take, min, All, IfOk, is_some, if◌then◌else◌};
 ghost use Rattle.digraph.specs.Digraph.{IsDigraph, IsLastIn, IsLastOut, in_degree, out_degree, source_of, target_of, targets_from};
 
-use crate::at_hand::{NEAR, count_edge, count_edges, near_place};
+use crate::at_hand::{NEAR, near_place, put_all_at_hand, put_at_hand};
 use crate::links::Links;
 use crate::step_count::Steps;
 use std::alloc::{AllocError, Global};
@@ -62,7 +62,7 @@ impl Graph {
         requires to { to < self.old.nodes }
         ensures { self.new ≡ record self.old { edges = self.old.edges ++ (from, to) ∷ [] } }
     {
-        count_edge(
+        put_at_hand(
             from,
             to,
             &mut self.near,
@@ -105,7 +105,7 @@ impl Graph {
         requires room { length self.old.edges + length edges.now ≤ self.old.room }
         ensures { self.new ≡ record self.old { edges = self.old.edges ++ edges.now } }
     {
-        count_edges(
+        put_all_at_hand(
             edges,
             &mut self.near,
             &mut self.out_degrees,

@@ -18,7 +18,7 @@ pub struct Link {
 }
 
 /// A list of keys below a fixed number, of fixed room.
-/// All but `with_room` take constant time.
+/// All but `with_room`, `truncate_to` and `push_ends` take constant time.
 #[derive(Drop)]
 pub struct Links {
     count: u32,

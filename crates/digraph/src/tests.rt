@@ -227,10 +227,14 @@ fn edges_are_added_together_and_taken_away_together(rt: HostRuntime) -> Result<(
     assert_eq!(rt; graph.edges(), 2);
     assert_eq!(rt; reads(&graph, 0, 1), [Some(0), None, None, None]);
     assert_eq!(rt; graph.in_degrees(), [0, 1, 1].as_slice());
+    assert_eq!(rt; near(&graph, 0), [1, 3, 3]);
+    assert_eq!(rt; near(&graph, 1), [2, 3, 3]);
     graph.add_all(&[(2, 1), (0, 1), (2, 0)]);
     assert_eq!(rt; (graph.source(4), graph.target(4)), (2, 0));
     assert_eq!(rt; reads(&graph, 2, 3), [Some(4), Some(0), Some(1), Some(2)]);
     assert_eq!(rt; graph.in_degrees(), [1, 3, 1].as_slice());
     assert_eq!(rt; (graph.out_degree(0), graph.out_degree(2)), (2, 2));
+    assert_eq!(rt; near(&graph, 0), [1, 1, 3]);
+    assert_eq!(rt; near(&graph, 2), [1, 0, 3]);
     Ok(())
 }

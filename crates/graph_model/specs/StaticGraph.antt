@@ -1,11 +1,11 @@
 -- What the graphs of all runs of a test have in common.
-use Rattle.std.specs.Prelude.{◌≡◌, ◌↔◌, ℕ, ◌*◌, ◌≤◌, List, ◌++◌, length, IsTrue}
+use Rattle.std.specs.Prelude.{◌≡◌, ◌↔◌, ℕ, ◌+◌, ◌*◌, ◌≤◌, List, ◌++◌, length, IsTrue}
 use Rattle.std.specs.List.{flat_map}
 use Rattle.orders.specs.Paths.{Reach}
 use Rattle.orders.specs.Reductions.{IsAmong}
 use Rattle.test_lang.specs.declared.op.MemModel.{MemModel}
 use Rattle.test_lang.specs.Program.{Program, op_count}
-use Rattle.test_lang.specs.Values.{load_nodes}
+use Rattle.test_lang.specs.Values.{load_count, load_nodes}
 use Rattle.test_lang.specs.Kept.{is_kept}
 use Rattle.digraph.specs.Digraph.{Digraph, HasEdge}
 use Rattle.graph_model.specs.LoadEdges.{edges_of_load}
@@ -30,3 +30,7 @@ pub record IsStaticGraph (s : StaticGraph) : Type 0 where
 -- with the few edges of each load, by rising rank
 abbrev pub few_run_edges : StaticGraph → List ℕ → List (ℕ × ℕ)
 few_run_edges s run = s.graph.edges ++ flat_map (edges_of_load s.test run) (load_nodes s.test)
+
+-- room for the edges that the loads of any run add
+abbrev pub run_edge_room : Program → ℕ
+run_edge_room p = load_count p * (2 + length p.threads)

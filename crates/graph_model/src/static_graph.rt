@@ -21,9 +21,9 @@ pub use full_graph::Full;
 
 /// The part of a run's constraint graph that doesn't depend on the run: a few kept pairs, along which the same nodes are reached as along all.
 ///
-/// A layer that looks at one run after another takes one graph by `graph_for_runs`, and makes it that of one run after another by `run_into`. It may
-/// also do this by itself: take edges away by `Graph::truncate`, back to those of the loads before the first that changed, and add those of
-/// `dynamic_into` again.
+/// A layer that looks at one run after another takes one graph by `graph_for_runs` and a slice of `run_edge_room` edges, and makes the graph that of one
+/// run after another by `run_into`. It may also do this by itself: take edges away by `Graph::truncate`, back to those of the loads before the first that
+/// changed, and add those of `dynamic_into` by `Graph::add_all`.
 #[derive(Drop)]
 pub struct Static {
     test: Test,

@@ -1,8 +1,9 @@
 //! Kept pairs and edges of worked tests and runs, all of them and the few.
-ghost use Rattle.std.specs.Prelude.{◌≡◌, ◌<◌, ◌≤◌, ◌+◌, ◌*◌, [], ◌∷◌, length, take, IfOk};
+ghost use Rattle.std.specs.Prelude.{◌≡◌, ◌<◌, ◌≤◌, ◌+◌, [], ◌∷◌, length, take, IfOk};
 ghost use Rattle.test_lang.specs.Litmus.{store_buffering, two_stores_two_loads, message_passing_fences};
 ghost use Rattle.test_lang.specs.Runs.{IsInside};
 ghost use Rattle.test_lang.specs.Values.{load_count};
+ghost use Rattle.graph_model.specs.StaticGraph.{run_edge_room};
 
 use crate::{Full, Static, edge, kept};
 use digraph::{Edges, Graph, Pairs as _, Steps};
@@ -263,15 +264,15 @@ fn fill_counted<L: Ledger>(
     requires inside { IsInside fixed.now.test run.now }
     requires nodes { graph.old.nodes ≡ fixed.now.graph.nodes }
     requires begins { take (length fixed.now.graph.edges) graph.old.edges ≡ fixed.now.graph.edges }
-    requires room { length fixed.now.graph.edges + load_count fixed.now.test * (2 + length fixed.now.test.threads) ≤ graph.old.room }
-    requires out_room { load_count fixed.now.test * (2 + length fixed.now.test.threads)
+    requires room { length fixed.now.graph.edges + run_edge_room fixed.now.test ≤ graph.old.room }
+    requires out_room { run_edge_room fixed.now.test
         ≤ length out.old }
     requires name { blank.name ≡ L.name }
     requires parts { blank.parts ≡ L.parts }
     requires some { 0 < blank.parts }
     ensures nodes { graph.new.nodes ≡ fixed.now.graph.nodes }
     ensures begins { take (length fixed.now.graph.edges) graph.new.edges ≡ fixed.now.graph.edges }
-    ensures room { length fixed.now.graph.edges + load_count fixed.now.test * (2 + length fixed.now.test.threads) ≤ graph.new.room }
+    ensures room { length fixed.now.graph.edges + run_edge_room fixed.now.test ≤ graph.new.room }
 {
     let mut steps = Steps::<L>::new(blank);
     fixed.run_into(run, graph, out, &mut steps);
@@ -281,12 +282,12 @@ fn fill(fixed: &Static, run: &[u32], graph: &mut Graph, out: &mut [(u32, u32)])
     requires inside { IsInside fixed.now.test run.now }
     requires nodes { graph.old.nodes ≡ fixed.now.graph.nodes }
     requires begins { take (length fixed.now.graph.edges) graph.old.edges ≡ fixed.now.graph.edges }
-    requires room { length fixed.now.graph.edges + load_count fixed.now.test * (2 + length fixed.now.test.threads) ≤ graph.old.room }
-    requires out_room { load_count fixed.now.test * (2 + length fixed.now.test.threads)
+    requires room { length fixed.now.graph.edges + run_edge_room fixed.now.test ≤ graph.old.room }
+    requires out_room { run_edge_room fixed.now.test
         ≤ length out.old }
     ensures nodes { graph.new.nodes ≡ fixed.now.graph.nodes }
     ensures begins { take (length fixed.now.graph.edges) graph.new.edges ≡ fixed.now.graph.edges }
-    ensures room { length fixed.now.graph.edges + load_count fixed.now.test * (2 + length fixed.now.test.threads) ≤ graph.new.room }
+    ensures room { length fixed.now.graph.edges + run_edge_room fixed.now.test ≤ graph.new.room }
 {
     fill_counted::<Brand>(fixed, run, graph, out, Blank::new(1));
 }
@@ -305,7 +306,7 @@ fn check_graphs(
 {
     let fixed = Static::of(alloc, test, MemModel::Sc)?;
     let mut graph = fixed.graph_for_runs(alloc)?;
-    let mut out = vec![in alloc; (0u32, 0u32); fixed.most_run_edges() as usize]?;
+    let mut out = vec![in alloc; (0u32, 0u32); fixed.run_edge_room() as usize]?;
     let [of_first, of_second] = want;
     fill(&fixed, first, &mut graph, &mut out);
     assert_eq!(rt; edges_of(alloc, &graph)?.as_slice(), of_first);

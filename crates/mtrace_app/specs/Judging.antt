@@ -1,9 +1,9 @@
 -- Room for judging one run of a test after another.
-use Rattle.std.specs.Prelude.{◌≡◌, ℕ, ◌+◌, ◌*◌, ◌≤◌, List, length, take}
+use Rattle.std.specs.Prelude.{◌≡◌, ℕ, ◌+◌, ◌≤◌, List, length, take}
 use Rattle.test_lang.specs.Values.{load_count}
 use Rattle.digraph.specs.Digraph.{Digraph}
 use Rattle.digraph.specs.Roomed.{Roomed}
-use Rattle.graph_model.specs.StaticGraph.{StaticGraph, IsStaticGraph}
+use Rattle.graph_model.specs.StaticGraph.{StaticGraph, IsStaticGraph, run_edge_room}
 use Rattle.mtrace_app.specs.declared.judging.Judge.{Judge}
 
 -- The graph begins with the static edges, and there is room for those of any run, for an order, a run and a cycle.
@@ -11,8 +11,8 @@ pub record HasRoom (fixed : StaticGraph) (graph : Digraph) (edges : List (ℕ ×
   pub sound : IsStaticGraph fixed
   pub nodes : graph.nodes ≡ fixed.graph.nodes
   pub begins : take (length fixed.graph.edges) graph.edges ≡ fixed.graph.edges
-  pub graph_room : length fixed.graph.edges + load_count fixed.test * (2 + length fixed.test.threads) ≤ graph.room
-  pub edge_room : load_count fixed.test * (2 + length fixed.test.threads) ≤ length edges
+  pub graph_room : length fixed.graph.edges + run_edge_room fixed.test ≤ graph.room
+  pub edge_room : run_edge_room fixed.test ≤ length edges
   pub scratch_room : scratch ≡ fixed.graph.nodes
   pub order_room : length order ≡ fixed.graph.nodes
   pub run_room : length run ≡ load_count fixed.test

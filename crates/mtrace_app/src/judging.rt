@@ -1,13 +1,13 @@
 //! The verdict on a signature, by a sort of all nodes of the run that it means.
-ghost use Rattle.std.specs.Prelude.{◌≡◌, ℕ, List, ◌+◌, ◌*◌, ◌^◌, ◌<◌, ◌≤◌, length, take, IfOk};
+ghost use Rattle.std.specs.Prelude.{◌≡◌, ℕ, List, ◌+◌, ◌^◌, ◌<◌, ◌≤◌, length, take, IfOk};
 ghost use Rattle.std.specs.Bool.{OnFalse, OnTrue};
 ghost use Rattle.test_lang.specs.Edges.{HasNoRunOrder, IsCanonicalRunCycle, IsRunAcyclic};
 ghost use Rattle.test_lang.specs.Runs.{IsInside};
 ghost use Rattle.test_lang.specs.Signatures.{Means};
-ghost use Rattle.test_lang.specs.Values.{load_count};
 ghost use Rattle.orders.specs.Orders.{HasNoOrder, nodes_below};
 ghost use Rattle.digraph.specs.Digraph.{HasEdge};
 ghost use Rattle.graph_model.specs.RunVerdicts.{StandsForRun};
+ghost use Rattle.graph_model.specs.StaticGraph.{run_edge_room};
 ghost use Rattle.mtrace_app.specs.Judging.{IsJudge};
 ghost use Rattle.mtrace_app.specs.Report.{IsJudged};
 
@@ -38,8 +38,8 @@ fn has_order<L: Ledger>(
     requires inside { IsInside fixed.now.test run.now }
     requires nodes { graph.old.nodes ≡ fixed.now.graph.nodes }
     requires begins { take (length fixed.now.graph.edges) graph.old.edges ≡ fixed.now.graph.edges }
-    requires graph_room { length fixed.now.graph.edges + load_count fixed.now.test * (2 + length fixed.now.test.threads) ≤ graph.old.room }
-    requires edge_room { load_count fixed.now.test * (2 + length fixed.now.test.threads)
+    requires graph_room { length fixed.now.graph.edges + run_edge_room fixed.now.test ≤ graph.old.room }
+    requires edge_room { run_edge_room fixed.now.test
         ≤ length edges.old }
     requires scratch_room { scratch.old ≡ fixed.now.graph.nodes }
     requires order_room { length order.old ≡ fixed.now.graph.nodes }
@@ -49,7 +49,7 @@ fn has_order<L: Ledger>(
     ensures stands { StandsForRun fixed.now.model fixed.now.test run.now graph.new }
     ensures nodes { graph.new.nodes ≡ fixed.now.graph.nodes }
     ensures begins { take (length fixed.now.graph.edges) graph.new.edges ≡ fixed.now.graph.edges }
-    ensures graph_room { length fixed.now.graph.edges + load_count fixed.now.test * (2 + length fixed.now.test.threads) ≤ graph.new.room }
+    ensures graph_room { length fixed.now.graph.edges + run_edge_room fixed.now.test ≤ graph.new.room }
     ensures scratch_room { scratch.new ≡ scratch.old }
 {
     let mut steps = Steps::<L>::new(blank);
@@ -118,7 +118,7 @@ impl Judge {
         let nodes = fixed.graph().nodes();
         Ok(Judge {
             graph: fixed.graph_for_runs(alloc)?,
-            edges: vec![in alloc; (0u32, 0u32); fixed.most_run_edges() as usize]?,
+            edges: vec![in alloc; (0u32, 0u32); fixed.run_edge_room() as usize]?,
             scratch: Scratch::new(alloc, nodes)?,
             order: vec![in alloc; 0u32; nodes as usize]?,
             run: vec![in alloc; 0u32; fixed.loads() as usize]?,

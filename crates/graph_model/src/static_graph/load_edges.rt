@@ -12,10 +12,10 @@ use test_lang::op::Op;
 use test_lang::test::{MAX_THREADS, Test};
 
 /// Room for the edges of a load of any test.
-const MOST: usize = 2 + MAX_THREADS as usize;
+const MOST_LOAD_EDGES: usize = 2 + MAX_THREADS as usize;
 
-/// Writes an edge behind the first `count` ones, and returns their number with it. Where there is no such edge it is written all the same, but not
-/// counted: which store a load gives is up to chance, so no step branches on it.
+/// Writes an edge behind the first `count` ones, and returns their number with it. Where `is_there` is false it is written all the same, but not
+/// counted, so that this doesn't branch: which store a load gives is up to chance.
 fn put(out: &mut [(u32, u32)], count: usize, edge: (u32, u32), is_there: bool) -> usize
     requires { count < length out.old }
     ensures put { take result out.new
@@ -68,6 +68,7 @@ impl Static {
         let is_other = self.test.thread_of(store) != self.test.thread_of(load);
         let next = self.next_stores[store as usize];
         let count = put(out, count, (store, load), is_other);
+        // Where there is no such store, any node will do.
         let to = next.unwrap_or(load);
         put(out, count, (load, to), is_other & next.is_some())
     }
@@ -110,13 +111,16 @@ impl Static {
         requires rank { rank < load_count self.now.test }
         requires room { 2 + length self.now.test.threads ≤ out.old.room }
         ensures edges { out.new
-            ≡ record out.old { list = edges_of_load self.now.test run.now (slice_index (load_nodes self.now.test) rank) } }
+            ≡ record out.old {
+              list = edges_of_load self.now.test run.now
+                  (slice_index (load_nodes self.now.test) rank);
+            } }
         ensures few { length out.new.list ≤ 2 + length self.now.test.threads }
         ensures ticks { steps.new ≡ steps.old + length out.new.list }
     {
         // The prover is told how many threads there may be.
         let _threads = self.threads();
-        let mut edges = [(0u32, 0u32); MOST];
+        let mut edges = [(0u32, 0u32); MOST_LOAD_EDGES];
         let count = self.put_load(run, rank, &mut edges, 0);
         out.clear();
         for edge in &edges[..count] {

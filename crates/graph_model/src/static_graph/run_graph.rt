@@ -1,11 +1,11 @@
 //! The graph of a run's few edges.
-ghost use Rattle.std.specs.Prelude.{◌≡◌, ◌+◌, ◌*◌, ◌^◌, ◌<◌, ◌≤◌, length, take, IfOk};
+ghost use Rattle.std.specs.Prelude.{◌≡◌, ◌+◌, ◌^◌, ◌<◌, ◌≤◌, length, take, IfOk};
 ghost use Rattle.std.specs.List.{flat_map};
 ghost use Rattle.test_lang.specs.Runs.{IsInside};
-ghost use Rattle.test_lang.specs.Values.{load_count, load_nodes};
+ghost use Rattle.test_lang.specs.Values.{load_nodes};
 ghost use Rattle.graph_model.specs.LoadEdges.{edges_of_load};
 ghost use Rattle.graph_model.specs.RunVerdicts.{StandsForRun};
-ghost use Rattle.graph_model.specs.StaticGraph.{few_run_edges};
+ghost use Rattle.graph_model.specs.StaticGraph.{few_run_edges, run_edge_room};
 
 use crate::static_graph::Static;
 use digraph::{Graph, Steps};
@@ -26,9 +26,10 @@ impl Static {
         Ok(copy)
     }
 
-    /// The most edges that the loads of a run add.
-    pub fn most_run_edges(&self) -> u32
-        ensures count { result ≡ load_count self.now.test * (2 + length self.now.test.threads) }
+    /// Room for the edges that the loads of any run add: for each load two, and one for each thread.
+    pub fn run_edge_room(&self) -> u32
+        ensures count { result ≡ run_edge_room self.now.test }
+        // 2048 loads, 18 edges each.
         ensures few { result ≤ 36864 }
     {
         self.loads() * (2 + self.threads())
@@ -37,24 +38,24 @@ impl Static {
     /// A copy of the static graph with room for the few edges of any run. The error is want of memory.
     pub fn graph_for_runs(&self, alloc: Global) -> Result<Graph, AllocError>
         ensures copy { IfOk result (λ copy. copy ≡ record self.now.graph {
-          room = length self.now.graph.edges + load_count self.now.test * (2 + length self.now.test.threads);
+          room = length self.now.graph.edges + run_edge_room self.now.test;
         }) }
         ensures begins { IfOk result (λ copy. take (length self.now.graph.edges) copy.edges
             ≡ self.now.graph.edges) }
     {
         // The prover is told how many operations there may be.
         let _ops = self.test.ops();
-        self.graph_with_room(alloc, self.most_run_edges())
+        self.graph_with_room(alloc, self.run_edge_room())
     }
 
-    /// Writes the few edges of each load, by rising rank, to the front of a slice, and returns their number.
+    /// Writes the few edges of each load, by rising rank, to the first places of a slice, and returns their number.
     fn put_loads(&self, run: &[u32], out: &mut [(u32, u32)]) -> usize
         requires inside { IsInside self.now.test run.now }
-        requires room { load_count self.now.test * (2 + length self.now.test.threads)
+        requires room { run_edge_room self.now.test
             ≤ length out.old }
         ensures put { take result out.new
             ≡ flat_map (edges_of_load self.now.test run.now) (load_nodes self.now.test) }
-        ensures few { result ≤ load_count self.now.test * (2 + length self.now.test.threads) }
+        ensures few { result ≤ run_edge_room self.now.test }
     {
         let mut count = 0;
         for rank in 0..self.test.loads() {
@@ -64,7 +65,8 @@ impl Static {
     }
 
     /// Makes of a graph that begins with the static edges, as one by `graph_for_runs`, the graph of a run: takes its other edges away, and adds the
-    /// few edges of each load, by rising rank. It ticks once for each of these. `out` is where they stand on the way.
+    /// few edges of each load, by rising rank. It ticks once for each of these. `out` is where they are written on the way; what it holds before and after
+    /// says nothing.
     pub fn run_into<L: Ledger>(
         &self,
         run: &[u32],
@@ -76,15 +78,15 @@ impl Static {
         requires nodes { graph.old.nodes ≡ self.now.graph.nodes }
         requires begins { take (length self.now.graph.edges) graph.old.edges
             ≡ self.now.graph.edges }
-        requires room { length self.now.graph.edges + load_count self.now.test * (2 + length self.now.test.threads) ≤ graph.old.room }
-        requires out_room { load_count self.now.test * (2 + length self.now.test.threads)
+        requires room { length self.now.graph.edges + run_edge_room self.now.test ≤ graph.old.room }
+        requires out_room { run_edge_room self.now.test
             ≤ length out.old }
         ensures graph { graph.new ≡ record graph.old { edges = few_run_edges self.now run.now } }
         ensures verdicts { StandsForRun self.now.model self.now.test run.now graph.new }
         // It may be made the graph of a next run.
         ensures nodes { graph.new.nodes ≡ self.now.graph.nodes }
         ensures begins { take (length self.now.graph.edges) graph.new.edges ≡ self.now.graph.edges }
-        ensures room { length self.now.graph.edges + load_count self.now.test * (2 + length self.now.test.threads) ≤ graph.new.room }
+        ensures room { length self.now.graph.edges + run_edge_room self.now.test ≤ graph.new.room }
         ensures ticks { steps.new + length self.now.graph.edges
             ≡ steps.old + length graph.new.edges }
     {

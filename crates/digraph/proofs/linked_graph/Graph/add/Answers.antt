@@ -28,9 +28,9 @@ invariant_of-self c =
     let nodes = ap (λ (g : Digraph). g.nodes) c.self.view_is in
     let from : c.args.from < c.self.inside.sources.kinds = omega (arith, nodes) in
     let to : c.args.to < c.self.inside.sources.kinds = omega (arith, nodes) in
-    let near = with_items_is c.self.inside.near c.count_edge.new.near (ap length c.count_edge.ensures.near ∙ length-set c.deref_mut.result.now _ c.args.to ∙ c.deref_mut.ensures.len) in
-    let outs = with_items_is c.self.inside.out_degrees c.count_edge.new.out_degrees (ap length c.count_edge.ensures.out_degrees ∙ length-set c.deref_mut-2.result.now c.args.from _ ∙ c.deref_mut-2.ensures.len) in
-    let ins = with_items_is c.self.inside.in_degrees c.count_edge.new.in_degrees (ap length c.count_edge.ensures.in_degrees ∙ length-set c.deref_mut-3.result.now c.args.to _ ∙ c.deref_mut-3.ensures.len) in
-    rw (near, outs, ins, c.count_edge.ensures.near, c.count_edge.ensures.out_degrees, c.count_edge.ensures.in_degrees, c.deref_mut.ensures.value, c.deref_mut-2.ensures.value, c.deref_mut-3.ensures.value)
+    let near = with_items_is c.self.inside.near c.put_at_hand.new.near (ap length c.put_at_hand.ensures.near ∙ length-set c.deref_mut.result.now _ c.args.to ∙ c.deref_mut.ensures.len) in
+    let outs = with_items_is c.self.inside.out_degrees c.put_at_hand.new.out_degrees (ap length c.put_at_hand.ensures.out_degrees ∙ length-set c.deref_mut-2.result.now c.args.from _ ∙ c.deref_mut-2.ensures.len) in
+    let ins = with_items_is c.self.inside.in_degrees c.put_at_hand.new.in_degrees (ap length c.put_at_hand.ensures.in_degrees ∙ length-set c.deref_mut-3.result.now c.args.to _ ∙ c.deref_mut-3.ensures.len) in
+    rw (near, outs, ins, c.put_at_hand.ensures.near, c.put_at_hand.ensures.out_degrees, c.put_at_hand.ensures.in_degrees, c.deref_mut.ensures.value, c.deref_mut-2.ensures.value, c.deref_mut-3.ensures.value)
     (graph-push c.self.inside.sources c.self.inside.targets c.self.inside.near.items c.self.inside.out_degrees.items c.self.inside.in_degrees.items g c.args.from c.args.to from to
     c.push.new.self c.push-2.new.self c.push.ensures.pushed c.push-2.ensures.pushed c.push.ensures.sound c.push-2.ensures.sound)
