@@ -7,4 +7,3 @@ pub mod RunLemmas
 pub mod CandidateLaws
 pub mod WordRows
 mod PlaceRows
-mod Reading

@@ -21,8 +21,7 @@ use Rattle.candidates.specs.declared.load_rows.LoadRow.{LoadRow}
 use Rattle.candidates.specs.Stores.{stores_to}
 use Rattle.candidates.specs.declared.store_lists.StoreRow.{StoreRow}
 use Rattle.candidates.specs.Reading.{table_place}
-use Rattle.candidates.proofs.Reading.{found_place}
-use Rattle.candidates.proofs.StoreSteps.{stores_before-short}
+use Rattle.candidates.specs.Places.{found_place}
 use Rattle.candidates.specs.Tables.{PlacesValue, StandsBehind, Tabulates, TellsCandidates}
 use Rattle.candidates.specs.ByRank.{FindsPlace, load_at}
 
@@ -411,7 +410,7 @@ finds_nothing p loads stores table t rank value lt e =
     (λ (past : length stores ≤ value). let each = t.one_row_each in finds_no_row p (load_at p rank) row value told (omega (arith, each, past)))
     (cases_lt value (length stores)) where
       no_row : LoadRow
-      no_row = record { word = 0; front = 0; places_from = 0; base = 0; own_from = 0; own_to = 0; skips = []; count = 0 }
+      no_row = record { word = 0; front = 0; base = 0; own_from = 0; own_to = 0; skips = []; count = 0 }
 
       no_store : StoreRow
       no_store = record { word = 0; place = 0 }

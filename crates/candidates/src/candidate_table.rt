@@ -1,4 +1,4 @@
-//! Candidates in tables that answer in constant time. They have a row for each store and each load, and one for each thread and value.
+//! Candidates in tables that answer in constant time. They have a row for each store, for each load, and for each value and load.
 ghost use Rattle.std.specs.Prelude.{◌≡◌, ◌<◌, ◌≤◌, ◌↔◌, ◌==◌, ℕ, length, position, Contains, IfOk, IfSome, IsNone, IsTrue, None, Some, if◌then◌else◌, slice_get};
 ghost use Rattle.std.specs.Bool.{OnTrue};
 ghost use Rattle.std.specs.Option.{option_map};
@@ -7,7 +7,8 @@ ghost use Rattle.test_lang.specs.Program.{IsWithinLimits};
 ghost use Rattle.test_lang.specs.Runs.{first_outside};
 ghost use Rattle.test_lang.specs.Values.{load_count};
 
-use crate::load_rows::{LoadTable, list_loads};
+use crate::load_rows::{LoadRow, list_loads};
+use crate::place_table::{PlaceRow, list_places};
 use crate::store_table::StoreTable;
 use std::alloc::{AllocError, Global};
 use std::marker::Model;
@@ -17,8 +18,11 @@ use test_lang::test::Test;
 #[derive(Debug, Drop)]
 pub struct Candidates {
     test: Test,
-    loads: LoadTable,
+    /// By rank.
+    loads: Vec<LoadRow>,
     stores: StoreTable,
+    /// By value, those for the first load first.
+    places: Vec<PlaceRow>,
 }
 
 impl Model for Candidates {
@@ -31,8 +35,8 @@ impl Model for Candidates {
     ghost view = { λ c. c.test };
 
     ghost invariant = { λ c.
-        Tabulates c.test c.loads.rows.items c.stores.rows.items c.stores.values.items
-        × TabulatesPlaces c.test c.loads.rows.items c.stores.rows.items c.loads.places.items };
+        Tabulates c.test c.loads.items c.stores.rows.items c.stores.values.items
+        × TabulatesPlaces c.loads.items c.stores.rows.items c.places.items };
 }
 
 impl Candidates {
@@ -42,10 +46,12 @@ impl Candidates {
     {
         let stores = StoreTable::of(alloc, test)?;
         let loads = list_loads(alloc, test, &stores)?;
+        let places = list_places(alloc, &loads, &stores.rows)?;
         Ok(Candidates {
             test: test.clone()?,
             loads,
             stores,
+            places,
         })
     }
 
@@ -64,7 +70,7 @@ impl Candidates {
         ensures some { 1 ≤ result }
         ensures few { result ≤ 2048 }
     {
-        self.loads.rows[rank as usize].count
+        self.loads[rank as usize].count
     }
 
     /// The value of the candidate at a place, counted from 0. Which place that is, is up to chance, so no step branches on it.
@@ -73,7 +79,7 @@ impl Candidates {
         requires place { place < length (candidates_at self.now rank) }
         ensures { slice_get (candidates_at self.now rank) place ≡ Some result }
     {
-        let load = &self.loads.rows[rank as usize];
+        let load = &self.loads[rank as usize];
         let other = self.stores.values[load.table_place(place)];
         [load.base, other][usize::from(place != 0)]
     }
@@ -105,12 +111,12 @@ impl Candidates {
         ensures found { FindsPlace (candidates_at self.now rank) value
             (if result.1 then Some result.0 else None) }
     {
-        if self.stores.rows.len() <= value as usize {
+        let values = self.stores.rows.len();
+        if values <= value as usize {
             return (0, false);
         }
-        let load = &self.loads.rows[rank as usize];
-        let row = self.loads.places[load.places_from as usize + value as usize];
-        load.place_by_row(value, row)
+        let row = self.places[rank as usize * values + value as usize];
+        (u32::from(row.place), row.is_candidate)
     }
 
     /// Whether each load of the run gives a candidate's value. Which candidate it gives is up to chance, so no step branches on it.

@@ -1,13 +1,9 @@
 //! What the candidates of each load are, told by a few numbers.
-ghost use Rattle.std.specs.Prelude.{◌≡◌, ◌+◌, ◌-◌, ◌*◌, ◌^◌, ◌<◌, ◌≤◌, [], ◌∷◌, ◌==◌, ◌||◌, if◌then◌else◌, IfOk, OnOk, length, map};
+ghost use Rattle.std.specs.Prelude.{◌≡◌, ◌+◌, ◌-◌, ◌^◌, ◌<◌, ◌≤◌, [], ◌∷◌, IfOk, OnOk, length, map};
 ghost use Rattle.candidates.specs.Reading.{table_place};
-ghost use Rattle.candidates.specs.Places.{AreInThreads, TabulatesPlaces};
-ghost use Rattle.candidates.specs.Tables.{PlacesStores, TellsBlocks, TellsLoads, TellsWords};
+ghost use Rattle.candidates.specs.Tables.{TellsBlocks, TellsLoads, TellsWords};
 ghost use Rattle.test_lang.specs.Program.{first_node, op_count, thread_length};
-ghost use Rattle.test_lang.specs.Values.{store_count};
 
-use crate::place_table::{PlaceRow, push_places};
-use crate::store_lists::StoreRow;
 use crate::store_table::{StoreTable, WordRow};
 use std::alloc::{AllocError, Global};
 use test_lang::op::Op;
@@ -19,13 +15,11 @@ pub(crate) struct LoadRow {
     pub word: u32,
     /// The place in front of the word's list in the table of stores.
     pub front: u32,
-    /// Where the rows of its thread begin in the table of places.
-    pub places_from: u32,
     /// The first candidate.
     pub base: u32,
     /// Where the block begins in the word's list of stores.
     pub own_from: u32,
-    /// Where it ends. Contracts alone read it.
+    /// Where it ends.
     pub own_to: u32,
     /// How many stores are left out in front of a store before the block, and of one behind it.
     pub skips: [u32; 2],
@@ -34,19 +28,6 @@ pub(crate) struct LoadRow {
 }
 
 impl LoadRow {
-    /// The place of a value, which stands there among those of the load's thread, and whether it is a candidate's; the place of another
-    /// value says nothing. Which candidate a load gives is up to chance, so no step branches on it.
-    #[inline(always)]
-    pub fn place_by_row(&self, value: u32, row: PlaceRow) -> (u32, bool)
-        ensures place { result.0 ≡ (if value == self.now.base then 0 else row.place) }
-        ensures candidate { result.1
-            ≡ ((value == self.now.base) || (row.word == self.now.word)) }
-    {
-        let is_base = value == self.base;
-        let place = u32::from(!is_base) * row.place;
-        (place, is_base | (row.word == self.word))
-    }
-
     /// Where the candidate at a place behind the first stands in the table of stores. The table has a place for the first as well,
     /// which says nothing of it. No step branches on the place.
     pub fn table_place(&self, place: u32) -> usize
@@ -61,22 +42,21 @@ impl LoadRow {
 /// The block of a thread's stores in the list of a word.
 #[derive(Clone, Copy, Debug, Drop)]
 pub(crate) struct OwnStores {
-    pub from: u32,
-    pub to: u32,
+    from: u32,
+    to: u32,
     /// The value of the last of them so far, or 0.
-    pub last: u32,
+    last: u32,
 }
 
 impl OwnStores {
-    /// The row of a load of the word, the stores to which stand there in the table. The rows of its thread begin there in the table of places.
-    fn load_row(self, word: u32, stores: WordRow, places_from: u32) -> LoadRow
+    /// The row of a load of the word, the stores to which stand there in the table.
+    fn load_row(self, word: u32, stores: WordRow) -> LoadRow
         requires block { self.from ≤ self.to }
         requires within { self.to ≤ stores.count }
         requires room { stores.count + 1 < 2 ^ 32 }
         ensures { result ≡ record {
           word = word;
           front = stores.front;
-          places_from = places_from;
           base = self.last;
           own_from = self.from;
           own_to = self.to;
@@ -87,7 +67,6 @@ impl OwnStores {
         LoadRow {
             word,
             front: stores.front,
-            places_from,
             base: self.last,
             own_from: self.from,
             own_to: self.to,
@@ -125,12 +104,11 @@ fn count_stores(test: &Test, thread: u32, own: &mut [OwnStores])
     }
 }
 
-/// Lists the loads of the thread, whose rows begin there in the table of places.
+/// Lists the loads of the thread.
 fn push_loads(
     test: &Test,
     thread: u32,
     stores: &StoreTable,
-    places_from: u32,
     own: &mut [OwnStores],
     rows: &mut Vec<LoadRow>,
 ) -> Result<(), AllocError>
@@ -141,21 +119,17 @@ fn push_loads(
         TellsBlocks test.now thread (first + thread_length test.now thread) first own.old }
     requires loads { TellsLoads test.now stores.now.values.items
         (first_node test.now thread) rows.old.items }
-    requires places { places_from ≡ thread * length stores.now.rows.items }
-    requires threads { AreInThreads test.now (length stores.now.rows.items) rows.old.items }
     ensures blocks { let end = first_node test.now thread + thread_length test.now thread in
         OnOk result (TellsBlocks test.now thread end end own.new) }
     ensures loads { let end = first_node test.now thread + thread_length test.now thread in
         OnOk result (TellsLoads test.now stores.now.values.items end rows.new.items) }
-    ensures threads { OnOk result
-        (AreInThreads test.now (length stores.now.rows.items) rows.new.items) }
 {
     let first = test.first_of(thread);
     for node in first..first + test.len_of(thread) {
         match test.op(node) {
             Op::Load { word } => {
                 let all = stores.words[word as usize];
-                rows.push(own[word as usize].load_row(word, all, places_from))?;
+                rows.push(own[word as usize].load_row(word, all))?;
             }
             Op::Store { word } => own[word as usize].last = test.value_of(node),
             Op::Fence => {}
@@ -164,28 +138,15 @@ fn push_loads(
     Ok(())
 }
 
-/// The loads of a test.
-#[derive(Debug, Drop)]
-pub(crate) struct LoadTable {
-    /// By rank.
-    pub rows: Vec<LoadRow>,
-    /// For the loads of each thread, by value.
-    pub places: Vec<PlaceRow>,
-}
-
-/// The loads of the test, whose stores are these.
+/// The loads of the test, whose stores are these, by rank.
 pub(crate) fn list_loads(
     alloc: Global,
     test: &Test,
     stores: &StoreTable,
-) -> Result<LoadTable, AllocError>
-    requires words { TellsWords test.now stores.now.values.items stores.now.words.items }
-    requires stores { PlacesStores test.now (op_count test.now) stores.now.rows.items }
-    requires count { length stores.now.rows.items ≡ store_count test.now + 1 }
-    ensures loads { IfOk result (λ loads.
-        TellsLoads test.now stores.now.values.items (op_count test.now) loads.rows.items) }
-    ensures places { IfOk result (λ loads.
-        TabulatesPlaces test.now loads.rows.items stores.now.rows.items loads.places.items) }
+) -> Result<Vec<LoadRow>, AllocError>
+    requires { TellsWords test.now stores.now.values.items stores.now.words.items }
+    ensures { IfOk result (λ loads.
+        TellsLoads test.now stores.now.values.items (op_count test.now) loads.items) }
 {
     let none = OwnStores {
         from: 0,
@@ -195,13 +156,10 @@ pub(crate) fn list_loads(
     let mut by_word = vec![in alloc; none; test.words() as usize]?;
     let own = by_word.as_mut_slice();
     let mut rows = Vec::with_capacity(alloc, test.loads() as usize)?;
-    let mut places = Vec::new(alloc);
     for thread in 0..test.threads() {
         begin_thread(own);
         count_stores(test, thread, own);
-        let places_from = places.len() as u32;
-        push_places(test.words(), &stores.rows, own, &mut places)?;
-        push_loads(test, thread, stores, places_from, own, &mut rows)?;
+        push_loads(test, thread, stores, own, &mut rows)?;
     }
-    Ok(LoadTable { rows, places })
+    Ok(rows)
 }

@@ -1,74 +1,59 @@
-//! Where the value of each store stands among the candidates of the loads of a thread.
-ghost use Rattle.std.specs.Prelude.{◌≡◌, ◌+◌, ◌^◌, ◌<◌, ◌++◌, ℕ, OnOk, Some, map, slice_get};
-ghost use Rattle.candidates.specs.declared.load_rows.OwnStores.{OwnStores};
-ghost use Rattle.candidates.specs.declared.store_lists.StoreRow.{StoreRow};
-ghost use Rattle.candidates.specs.Places.{place_row, placed_in};
+//! Where each value stands among the candidates of each load.
+ghost use Rattle.std.specs.Prelude.{◌≡◌, ◌+◌, ◌^◌, ◌<◌, ◌≤◌, All, IfOk, length};
+ghost use Rattle.candidates.specs.Places.{TabulatesPlaces, found_place, told};
 
-use crate::load_rows::OwnStores;
+use crate::load_rows::LoadRow;
 use crate::store_lists::StoreRow;
-use std::alloc::AllocError;
+use std::alloc::{AllocError, Global};
 
-/// Where a value stands among the candidates of the loads of a thread that read its word, other than as the base.
+/// Where a value stands among the candidates of a load. The table has very many rows, so they are small.
 #[derive(Clone, Copy, Debug, Drop)]
 pub(crate) struct PlaceRow {
-    /// The word, or no word of the test where the value is no other candidate's.
-    pub word: u32,
-    pub place: u32,
+    /// It says nothing where the value is no candidate's.
+    pub place: u16,
+    pub is_candidate: bool,
 }
 
-/// The row of a store's value, for the thread whose stores to its word are that block, in a test of so many words.
-fn place_by_block(words: u32, own: OwnStores, store: StoreRow) -> PlaceRow
-    requires { own.from + store.place + 1 < 2 ^ 32 }
-    ensures { result ≡ place_row words own.from own.to store }
-{
-    if store.place < own.from {
+impl PlaceRow {
+    /// The row of a value, the store of which is that.
+    fn of(load: &LoadRow, value: u32, store: StoreRow) -> PlaceRow
+        requires block { load.now.own_from ≤ load.now.own_to }
+        requires room { store.place + 1 < 2 ^ 16 }
+        ensures { told result ≡ found_place load.now value store }
+    {
+        let is_before = store.place < load.own_from;
+        let is_other = store.word == load.word && (is_before || load.own_to <= store.place);
+        let place = if value == load.base || !is_other {
+            0
+        } else if is_before {
+            store.place + 1
+        } else {
+            store.place - (load.own_to - load.own_from) + 1
+        };
         PlaceRow {
-            word: store.word,
-            place: store.place + 1,
-        }
-    } else if store.place < own.to {
-        PlaceRow {
-            word: words,
-            place: 0,
-        }
-    } else {
-        PlaceRow {
-            word: store.word,
-            place: store.place - own.to + own.from + 1,
+            place: place as u16,
+            is_candidate: value == load.base || is_other,
         }
     }
 }
 
-/// The row of a value, for the thread whose stores are in these blocks.
-fn place_in(words: u32, own: &[OwnStores], store: StoreRow) -> PlaceRow
-    requires { (word : ℕ) (block : OwnStores) → slice_get own.now word ≡ Some block →
-        block.from + store.place + 1 < 2 ^ 32 }
-    ensures { result ≡ placed_in words own.now store }
-{
-    match own.get(store.word as usize) {
-        Some(block) => place_by_block(words, *block, store),
-        None => PlaceRow {
-            word: store.word,
-            place: 0,
-        },
-    }
-}
-
-/// Adds the rows of all values for the thread whose stores are in these blocks.
-pub(crate) fn push_places(
-    words: u32,
+/// The rows of all values for each of the loads.
+pub(crate) fn list_places(
+    alloc: Global,
+    loads: &[LoadRow],
     stores: &[StoreRow],
-    own: &[OwnStores],
-    places: &mut Vec<PlaceRow>,
-) -> Result<(), AllocError>
-    requires { (value word : ℕ) (store : StoreRow) (block : OwnStores) →
-        slice_get stores.now value ≡ Some store → slice_get own.now word ≡ Some block →
-        block.from + store.place + 1 < 2 ^ 32 }
-    ensures { OnOk result (places.new.items ≡ places.old.items
-        ++ map (placed_in words own.now) stores.now) }
+) -> Result<Vec<PlaceRow>, AllocError>
+    requires few_loads { length loads.now ≤ 2048 }
+    requires few_stores { length stores.now ≤ 2049 }
+    requires blocks { All (λ load. load.own_from ≤ load.own_to) loads.now }
+    requires room { All (λ store. store.place + 1 < 2 ^ 16) stores.now }
+    ensures { IfOk result (λ places. TabulatesPlaces loads.now stores.now places.items) }
 {
-    for store in stores {
-        places.push(place_in(words, own, *store))?;
+    let mut places = Vec::with_capacity(alloc, loads.len() * stores.len())?;
+    for load in loads {
+        for (value, store) in stores.iter().enumerate() {
+            places.push(PlaceRow::of(load, value as u32, *store))?;
+        }
     }
-    Ok(())
+    Ok(places)
 }

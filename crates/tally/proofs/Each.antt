@@ -1,8 +1,8 @@
 -- What counting the outcomes of a list does to a tally.
-use Rattle.std.proofs.Common.{◌≡◌, ◌∙◌, ℕ, zero, suc, ◌+◌, ◌-◌, ◌<◌, ◌≤◌, List, [], ◌∷◌, ◌++◌, length, take, map, replicate, subst, ◌^◌, length-append, Bool, true, false, cond, refl, sym, ap, arith, add-zero}
+use Rattle.std.proofs.Common.{◌≡◌, ◌∙◌, ℕ, zero, suc, ◌+◌, ◌-◌, ◌<◌, ◌≤◌, List, [], ◌∷◌, ◌++◌, length, take, map, replicate, subst, ◌^◌, length-append, append_assoc, Bool, true, false, cond, refl, sym, ap, arith, add-zero}
 use Rattle.std.specs.Prelude.{IsPermutation, sum_by}
 use Rattle.std.proofs.lemmas.List.{length-map, map-append}
-use Rattle.std.proofs.lemmas.List.Sorted.{IsPermutation-map, length_permutation, sum_by-IsPermutation}
+use Rattle.std.proofs.lemmas.List.Sorted.{IsPermutation-append_right, IsPermutation-map, length_permutation, sum_by-IsPermutation}
 use Rattle.std.proofs.lemmas.List.Sums.{sum_by-append, sum_by-cons}
 use Rattle.tally.specs.declared.outcome.Outcome.{Outcome}
 use Rattle.tally.specs.declared.outcome.Outcome.TheVariants.{Inside}
@@ -11,7 +11,7 @@ use Rattle.tally.specs.Counting.{CanCount, EndsWith, all_rows, with_rows}
 use Rattle.tally.specs.Tallies.{IsCounts, count_of, occurrences, total_of, with_each, with_more, with_one_more}
 use Rattle.tally.proofs.Growing.{IsCounts-more, count_of-more, total-more}
 use Rattle.tally.proofs.OneTally.{one_from_counts}
-use Rattle.tally.proofs.PlacedRows.{all_rows-last, length-all_rows-last, entries-length}
+use Rattle.tally.proofs.PlacedRows.{all_rows-append, all_rows-last, length-all_rows-last, entries-length}
 
 pub IsCounts-each : (pairs : List (Outcome × ℕ)) (outcomes : List Outcome) → IsCounts pairs → IsCounts (with_each pairs outcomes)
 IsCounts-each pairs [] h = h
@@ -131,6 +131,45 @@ pub last-room : (pairs : List (Outcome × ℕ)) (entries : List (List ℕ × ℕ
 last-room pairs entries row times can last =
     let long = ap (λ es. length (all_rows es)) last.whole ∙ length-all_rows-last (take (length entries - 1) entries) row times in
     omega (arith, long, can.room)
+
+-- a batch waits behind a queue
+pub waiting-length : (queue batch : List (List ℕ × ℕ)) → length (all_rows (queue ++ batch)) ≡ length (all_rows queue) + length (all_rows batch)
+waiting-length queue batch = ap length (all_rows-append queue batch) ∙ length-append (all_rows queue) (all_rows batch)
+
+module _ (pairs : List (Outcome × ℕ)) (queue batch : List (List ℕ × ℕ)) (can : CanCount pairs (all_rows (queue ++ batch))) where
+  parts : length (all_rows (queue ++ batch)) ≡ length (all_rows queue) + length (all_rows batch)
+  parts = waiting-length queue batch
+
+  -- those of the queue can be counted first
+  pub CanCount-queue : CanCount pairs (all_rows queue)
+  CanCount-queue = record { counts = can.counts; room = omega (arith, parts, can.room) }
+
+  -- those of the batch are counted later
+  both : (ps : List (Outcome × ℕ)) (left : List (List ℕ × ℕ)) → with_rows ps (all_rows (left ++ batch)) ≡ with_rows (with_rows ps (all_rows left)) (all_rows batch)
+  both ps left =
+      ap (with_rows ps) (all_rows-append left batch)
+      ∙ ap (with_each ps) (map-append Inside (all_rows left) (all_rows batch))
+      ∙ with_each-append ps (map Inside (all_rows left)) (map Inside (all_rows batch))
+
+  pub CanCount-behind : (new : List (Outcome × ℕ)) (left : List (List ℕ × ℕ)) → CanCount new (all_rows left) → with_rows new (all_rows left) ≡ with_rows pairs (all_rows queue)
+      → CanCount new (all_rows (left ++ batch)) × (with_rows new (all_rows (left ++ batch)) ≡ with_rows pairs (all_rows (queue ++ batch)))
+  CanCount-behind new left counted same =
+      let before = total-rows pairs (all_rows queue) can.counts in
+      let after = total-rows new (all_rows left) counted.counts in
+      let equal = ap total_of same in
+      let long = waiting-length left batch in (
+        record { counts = counted.counts; room = omega (arith, before, after, equal, long, parts, can.room) },
+        both new left ∙ ap (λ ps. with_rows ps (all_rows batch)) same ∙ sym (both pairs queue),
+      )
+
+-- a row waits behind the queue
+pub behind-queue : (queue batch batch' : List (List ℕ × ℕ)) (row : List ℕ) → IsPermutation (all_rows batch ++ row ∷ []) (all_rows batch') → IsPermutation (all_rows (queue ++ batch) ++ row ∷ []) (all_rows (queue ++ batch'))
+behind-queue queue batch batch' row p =
+    let before : all_rows (queue ++ batch) ++ row ∷ [] ≡ all_rows queue ++ (all_rows batch ++ row ∷ []) =
+    ap (λ rows. rows ++ row ∷ []) (all_rows-append queue batch) ∙ append_assoc (all_rows queue) (all_rows batch) (row ∷ []) in
+    subst (λ rows. IsPermutation rows (all_rows (queue ++ batch'))) (sym before)
+    (subst (IsPermutation (all_rows queue ++ (all_rows batch ++ row ∷ []))) (sym (all_rows-append queue batch'))
+    (IsPermutation-append_right (all_rows queue) (all_rows batch ++ row ∷ []) (all_rows batch') p))
 
 -- The pairs and the waiting rows stand for `before`.
 module _ (before pairs : List (Outcome × ℕ)) (rows : List (List ℕ)) (can : CanCount pairs rows) (stands : with_rows pairs rows ≡ before) where

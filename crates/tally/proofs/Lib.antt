@@ -3,3 +3,4 @@ pub mod Growing
 pub mod OneTally
 pub mod PlacedRows
 pub mod Putting
+pub mod RowsInLine

@@ -23,6 +23,10 @@ abbrev pub all_rows : List (List ℕ × ℕ) → List (List ℕ)
 all_rows [] = []
 all_rows (entry ∷ entries) = replicate entry.1 entry.0 ++ all_rows entries
 
+-- the rows that wait to be counted now, and those that wait behind them
+abbrev pub waiting : Waiting → Waiting → List (List ℕ)
+waiting queue batch = all_rows (queue.rows ++ batch.rows)
+
 -- the last row is this one, and it waits so often, once at least
 pub record EndsWith (entries : List (List ℕ × ℕ)) (row : List ℕ) (times : ℕ) : Type 0 where
   pub whole : entries ≡ take (length entries - 1) entries ++ (row, times) ∷ []

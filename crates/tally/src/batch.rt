@@ -1,33 +1,30 @@
 //! Rows of words that wait to be counted, equal ones together as far as guesses lead.
-ghost use Rattle.std.specs.Prelude.{◌≡◌, ℕ, ◌+◌, ◌-◌, ◌^◌, ◌<◌, ◌≤◌, ◌↔◌, List, [], ◌∷◌, ◌++◌, length, take, drop, IsNone, IsPermutation, IfOk, IfSome, OnOk, OnErr, slice_index_or};
-ghost use Rattle.tally.specs.Counting.{EndsWith, all_rows};
+ghost use Rattle.std.specs.Prelude.{◌≡◌, ℕ, ◌+◌, ◌-◌, ◌*◌, ◌^◌, ◌<◌, ◌≤◌, List, [], ◌∷◌, ◌++◌, length, All, IsPermutation, IfOk, OnOk, OnErr, slice_index_or};
+ghost use Rattle.std.specs.Bool.{OnTrue};
+ghost use Rattle.tally.specs.Counting.{all_rows};
+ghost use Rattle.tally.specs.Rows.{FitsIn, HasRoomAt, Holds, rows_at, rows_in};
 
 use crate::guesses::{Guesses, NONE, WAYS, hash};
+use crate::place::{Place, row_at};
 use std::alloc::{AllocError, Global};
-use std::cmp::Ordering;
 use std::marker::Model;
+use std::mem::{replace, swap};
 
-/// So many places fill a batch: as many as guesses tell apart.
+/// So many rows fill a batch: as many as guesses tell apart.
 const ROWS: usize = NONE as usize;
 
 /// So many words fill a batch, however few rows they make.
 const WORDS: usize = 1 << 18;
 
-/// Where a row begins among the words, its first word, or 0 where it has none, and how often it waits.
-#[derive(Clone, Copy)]
-pub(crate) struct Place {
-    first_word: u64,
-    start: usize,
-    times: u64,
-}
-
-/// A list of rows of `width` words each, and how often each waits. Its memory serves again once it was emptied.
+/// A list of rows of `width` words each, and how often each waits. Its memory serves again once it was cleared.
 #[derive(Drop)]
 pub(crate) struct Batch {
     width: usize,
+    /// The words of the first row, then those of the second, and so on.
     words: Vec<u64>,
-    places: Vec<Place>,
-    /// Where rows stand among the places.
+    /// How often each row waits. It is read and written at each row that comes again, so it is small.
+    times: Vec<u32>,
+    /// Where rows stand.
     guesses: Guesses,
     /// How many rows wait in all.
     len: u64,
@@ -38,11 +35,11 @@ impl Model for Batch {
 
     ghost Value = { Waiting };
 
-    ghost use Rattle.tally.specs.Rows.{Holds, rows_at};
+    ghost use Rattle.tally.specs.Rows.{Fills, rows_in};
 
-    ghost view = { λ b. record { width = b.width; rows = rows_at b.words.items b.width b.places.items } };
+    ghost view = { λ b. record { width = b.width; rows = rows_in b.words.items b.width b.times.items } };
 
-    ghost invariant = { λ b. Holds b.words.items b.width b.places.items b.len };
+    ghost invariant = { λ b. Fills b.words.items b.width b.times.items b.len };
 }
 
 impl Batch {
@@ -53,7 +50,7 @@ impl Batch {
         Batch {
             width,
             words: Vec::new(alloc),
-            places: Vec::new(alloc),
+            times: Vec::new(alloc),
             guesses: Guesses::new(alloc),
             len: 0,
         }
@@ -61,7 +58,7 @@ impl Batch {
 
     /// Whether it has so many rows or words that it is time to empty it.
     pub(crate) fn is_full(&self) -> bool {
-        self.places.len() >= ROWS || self.words.len() >= WORDS
+        self.times.len() >= ROWS || self.words.len() >= WORDS
     }
 
     /// Lets a row wait. `Err` means want of memory, and the rows stay.
@@ -76,41 +73,51 @@ impl Batch {
         match self.find(row, hash) {
             Ok(place) => self.raise(place),
             Err(way) => {
-                self.guesses.set(hash, way, self.places.len())?;
+                self.guesses.set(hash, way, self.times.len())?;
                 self.push_new(row)?;
             }
         }
         Ok(())
     }
 
-    /// Where the row stands, if a guess leads there, and otherwise the way on which it is guessed from now on. New rows begin a
-    /// width apart, so a row is compared without a look at its place, which is read meanwhile.
+    /// Where the row stands, if a guess leads there, and otherwise the way on which it is guessed from now on.
     fn find(&self, row: &[u64], hash: u64) -> Result<usize, usize>
-        ensures { IfOk result (λ place. (place < length self.now.rows)
-            × ((slice_index_or self.now.rows place (row.now, 0)).0 ≡ row.now)) }
+        requires { length row.now ≡ self.now.width }
+        ensures { IfOk result (λ place. HasRoomAt self.now.rows place row.now) }
     {
         'ways: for way in 0..WAYS {
             let Some(place) = self.guesses.at(hash, way) else {
                 return Err(way);
             };
-            let start = place.wrapping_mul(self.width);
-            let is_same = row_at(&self.words, self.width, start) == row;
-            if is_same && place < self.places.len() && self.places[place].start == start {
+            if self.has_room_at(place, row) {
                 return Ok(place);
             }
         }
         Err(0)
     }
 
+    /// Whether the row stands at the place, and can wait there once more.
+    fn has_room_at(&self, place: usize, row: &[u64]) -> bool
+        requires { length row.now ≡ self.now.width }
+        ensures { OnTrue result (HasRoomAt self.now.rows place row.now) }
+    {
+        if self.times.len() <= place {
+            return false;
+        }
+        let start = place * self.width;
+        &self.words[start..start + self.width] == row && self.times[place] < u32::MAX
+    }
+
     /// Lets the row at a place wait once more.
     fn raise(&mut self, place: usize)
         requires within { place < length self.old.rows }
+        requires fits { (slice_index_or self.old.rows place ([], 0)).1 + 1 < 2 ^ 32 }
         requires room { length (all_rows self.old.rows) + 1 < 2 ^ 64 }
         ensures width { self.new.width ≡ self.old.width }
         ensures raised { (row : List ℕ) → (slice_index_or self.old.rows place (row, 0)).0 ≡ row
             → IsPermutation (all_rows self.old.rows ++ row ∷ []) (all_rows self.new.rows) }
     {
-        self.places[place].times += 1;
+        self.times[place] += 1;
         self.len += 1;
     }
 
@@ -123,36 +130,14 @@ impl Batch {
             ≡ all_rows self.old.rows ++ row.now ∷ []) }
         ensures refused { OnErr result (self.new ≡ self.old) }
     {
-        let start = self.words.len();
+        let before = self.words.len();
         self.words.extend_from_slice(row)?;
-        let first_word = row.first().copied().unwrap_or(0);
-        self.places.push(Place {
-            first_word,
-            start,
-            times: 1,
-        })?;
+        if self.times.push(1).is_err() {
+            self.words.truncate(before);
+            return Err(AllocError);
+        }
         self.len += 1;
         Ok(())
-    }
-
-    /// Puts the rows in order, in time of n log n comparisons. Only the speed of counting them rests on the order.
-    pub(crate) fn sort(&mut self)
-        ensures width { self.new.width ≡ self.old.width }
-        ensures permutation { IsPermutation self.old.rows self.new.rows }
-    {
-        let words = self.words.as_slice();
-        let width = self.width;
-        self.places
-            .sort_unstable_by(|left, right| compare(words, width, left, right));
-    }
-
-    /// The last row, and how often it waits. None exactly where there is no row.
-    pub(crate) fn last(&self) -> Option<(&[u64], u64)>
-        ensures empty { IsNone result ↔ (self.now.rows ≡ []) }
-        ensures last { IfSome result (λ last. EndsWith self.now.rows last.0.now last.1) }
-    {
-        let last = self.places.len().checked_sub(1)?;
-        Some((self.row(last), self.places[last].times))
     }
 
     /// How many words each row has.
@@ -169,49 +154,58 @@ impl Batch {
         self.len
     }
 
-    /// Drops the last row, however often it waits.
-    pub(crate) fn pop(&mut self)
+    /// Hands its rows over, which stand at the places among the words then, and tells how many wait in all. It takes the memory of
+    /// the words that were there in exchange. `Err` means want of memory, and everything is as before.
+    pub(crate) fn hand_over(
+        &mut self,
+        words: &mut Vec<u64>,
+        places: &mut Vec<Place>,
+    ) -> Result<u64, AllocError>
+        requires { places.old.items ≡ [] }
         ensures width { self.new.width ≡ self.old.width }
-        ensures dropped { self.new.rows ≡ take (length self.old.rows - 1) self.old.rows }
+        ensures rows { OnOk result
+            (rows_at words.new.items self.old.width places.new.items ≡ self.old.rows) }
+        ensures holds { IfOk result (Holds words.new.items self.old.width places.new.items) }
+        ensures emptied { OnOk result (self.new.rows ≡ []) }
+        ensures refused { OnErr result (self.new ≡ self.old) }
+        ensures words { OnErr result (words.new.items ≡ words.old.items) }
+        ensures places { OnErr result (places.new.items ≡ []) }
     {
-        if let Some(place) = self.places.pop() {
-            self.len -= place.times;
+        if push_places(&self.words, self.width, &self.times, places).is_err() {
+            places.clear();
+            return Err(AllocError);
         }
-        if self.places.is_empty() {
-            self.words.clear();
-            self.guesses.clear();
-        }
-    }
-
-    fn row(&self, index: usize) -> &[u64]
-        requires { index < length self.now.rows }
-        ensures { result.now ≡ (slice_index_or self.now.rows index (result.now, 0)).0 }
-    {
-        row_at(&self.words, self.width, self.places[index].start)
+        swap(&mut self.words, words);
+        self.words.clear();
+        self.times.clear();
+        self.guesses.clear();
+        Ok(replace(&mut self.len, 0))
     }
 }
 
-fn row_at(words: &[u64], width: usize, start: usize) -> &[u64]
-    ensures { result.now ≡ take width (drop start words.now) }
+/// Lists where rows begin that stand one after another, and how often each waits.
+fn push_places(
+    words: &[u64],
+    width: usize,
+    times: &[u32],
+    places: &mut Vec<Place>,
+) -> Result<(), AllocError>
+    requires empty { places.old.items ≡ [] }
+    requires whole { length words.now ≡ length times.now * width }
+    requires some { All (λ n. 1 ≤ n) times.now }
+    ensures rows { OnOk result
+        (rows_at words.now width places.new.items ≡ rows_in words.now width times.now) }
+    ensures fits { OnOk result (All (FitsIn words.now width) places.new.items) }
+    ensures some { OnOk result (All (λ place. 1 ≤ place.times) places.new.items) }
 {
-    let rest = if start <= words.len() {
-        &words[start..]
-    } else {
-        &[]
-    };
-    if width <= rest.len() {
-        &rest[..width]
-    } else {
-        rest
+    for (index, times) in times.iter().enumerate() {
+        let start = index * width;
+        let row = row_at(words, width, start);
+        places.push(Place {
+            first_word: row.first().copied().unwrap_or(0),
+            start,
+            times: u64::from(*times),
+        })?;
     }
-}
-
-/// The order of two rows: by their first words, and then as lists.
-fn compare(words: &[u64], width: usize, left: &Place, right: &Place) -> Ordering {
-    if left.first_word != right.first_word {
-        return left.first_word.cmp(&right.first_word);
-    }
-    let left = row_at(words, width, left.start);
-    let right = row_at(words, width, right.start);
-    left.cmp(&right)
+    Ok(())
 }

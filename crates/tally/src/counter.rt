@@ -1,12 +1,13 @@
 //! Counting the outcomes of very many runs, one after another.
 ghost use Rattle.std.specs.Prelude.{◌≡◌, ℕ, ◌+◌, ◌-◌, ◌^◌, ◌<◌, ◌≤◌, List, [], ◌∷◌, ◌++◌, length, OnOk, OnErr, IfOk};
 ghost use Rattle.tally.specs.declared.outcome.Outcome.{Outcome};
-ghost use Rattle.tally.specs.Counting.{CanCount, HasCounted, all_rows, with_rows};
+ghost use Rattle.tally.specs.Counting.{CanCount, HasCounted, all_rows, waiting, with_rows};
 ghost use Rattle.tally.specs.Tallies.{IsCounts, IsTally, total_of, with_more, with_one_more};
 
 use crate::batch::Batch;
 use crate::counts::Tally;
 use crate::outcome::Outcome;
+use crate::queue::Queue;
 use crate::signature::Signature;
 use std::alloc::{AllocError, Global};
 use std::marker::Model;
@@ -14,24 +15,28 @@ use std::marker::Model;
 /// Counts outcomes that come one after another, and gives their tally at the end.
 /// All signatures that it is given have the same number of words, its width.
 ///
-/// Signatures wait in a batch, where one that comes again is found by a hash and only raises a number. When the batch is full it is sorted and its signatures are counted,
-/// each with its number: a search for each of them, and no memory but for those that are new.
+/// Signatures wait in a batch, where one that comes again is found by a hash and only raises a number. When the batch is full its
+/// signatures are sorted and counted, each with its number: a search for each of them, and no memory but for those that are new.
 #[derive(Drop)]
 pub struct Counter {
     alloc: Global,
     batch: Batch,
+    /// The signatures of a full batch. It is empty, unless memory ran out while they were counted.
+    queue: Queue,
     tally: Tally,
     probe: Outcome,
 }
 
 impl Model for Counter {
-    ghost use Rattle.tally.specs.Counting.{CanCount, Counting, all_rows, with_rows};
+    ghost use Rattle.tally.specs.Counting.{CanCount, Counting, waiting, with_rows};
+    ghost use Rattle.std.specs.Prelude.{◌≡◌};
 
     ghost Value = { Counting };
 
-    ghost view = { λ c. record { width = c.batch.width; pairs = with_rows c.tally (all_rows c.batch.rows) } };
+    ghost view = { λ c. record { width = c.batch.width; pairs = with_rows c.tally (waiting c.queue c.batch) } };
 
-    ghost invariant = { λ c. CanCount c.tally (all_rows c.batch.rows) };
+    ghost invariant = { λ c. CanCount c.tally (waiting c.queue c.batch)
+        × (c.queue.width ≡ c.batch.width) };
 }
 
 impl Counter {
@@ -44,6 +49,7 @@ impl Counter {
         Counter {
             alloc,
             batch: Batch::new(alloc, width),
+            queue: Queue::new(alloc, width),
             tally: Tally::new(alloc),
             probe: Outcome::Outside { node: 0, value: 0 },
         }
@@ -60,7 +66,7 @@ impl Counter {
     pub fn total(&self) -> u64
         ensures { result ≡ total_of self.now.pairs }
     {
-        self.tally.total() + self.batch.len()
+        self.tally.total() + self.queue.len() + self.batch.len()
     }
 
     /// Counts one more inside outcome, of the signature with these words.
@@ -108,10 +114,11 @@ impl Counter {
         let Counter {
             alloc,
             mut batch,
+            mut queue,
             mut tally,
             mut probe,
         } = self;
-        empty_batch(alloc, &mut batch, &mut tally, &mut probe)?;
+        empty_batch(alloc, &mut batch, &mut queue, &mut tally, &mut probe)?;
         Ok(tally)
     }
 
@@ -123,6 +130,7 @@ impl Counter {
             empty_batch(
                 self.alloc,
                 &mut self.batch,
+                &mut self.queue,
                 &mut self.tally,
                 &mut self.probe,
             )?;
@@ -131,25 +139,47 @@ impl Counter {
     }
 }
 
-/// Counts the rows of the batch, each as often as it waits, and empties it.
+/// Counts the rows of the queue and of the batch, each as often as it waits, and empties both.
 /// `Err` means want of memory; then the rows that weren't counted wait on.
 fn empty_batch(
     alloc: Global,
     batch: &mut Batch,
+    queue: &mut Queue,
     tally: &mut Tally,
     probe: &mut Outcome,
 ) -> Result<(), AllocError>
-    requires { CanCount tally.old (all_rows batch.old.rows) }
-    ensures sound { CanCount tally.new (all_rows batch.new.rows) }
-    ensures width { batch.new.width ≡ batch.old.width }
-    ensures same { with_rows tally.new (all_rows batch.new.rows)
-        ≡ with_rows tally.old (all_rows batch.old.rows) }
-    ensures emptied { OnOk result (batch.new.rows ≡ []) }
+    requires can { CanCount tally.old (waiting queue.old batch.old) }
+    requires width { queue.old.width ≡ batch.old.width }
+    ensures sound { CanCount tally.new (waiting queue.new batch.new) }
+    ensures width { queue.new.width ≡ queue.old.width }
+    ensures batch_width { batch.new.width ≡ batch.old.width }
+    ensures same { with_rows tally.new (waiting queue.new batch.new)
+        ≡ with_rows tally.old (waiting queue.old batch.old) }
+    ensures emptied { OnOk result (waiting queue.new batch.new ≡ []) }
 {
-    batch.sort();
-    while let Some((row, times)) = batch.last() {
+    count_queue(alloc, queue, tally, probe)?;
+    queue.take_rows(batch)?;
+    count_queue(alloc, queue, tally, probe)
+}
+
+/// Counts the rows of the queue, each as often as it waits, and empties it.
+/// `Err` means want of memory; then the rows that weren't counted wait on.
+fn count_queue(
+    alloc: Global,
+    queue: &mut Queue,
+    tally: &mut Tally,
+    probe: &mut Outcome,
+) -> Result<(), AllocError>
+    requires { CanCount tally.old (all_rows queue.old.rows) }
+    ensures sound { CanCount tally.new (all_rows queue.new.rows) }
+    ensures width { queue.new.width ≡ queue.old.width }
+    ensures same { with_rows tally.new (all_rows queue.new.rows)
+        ≡ with_rows tally.old (all_rows queue.old.rows) }
+    ensures emptied { OnOk result (queue.new.rows ≡ []) }
+{
+    while let Some((row, times)) = queue.last() {
         count_row(alloc, tally, probe, row, times)?;
-        batch.pop();
+        queue.pop();
     }
     Ok(())
 }

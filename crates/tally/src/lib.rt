@@ -7,6 +7,8 @@ mod counts;
 mod guesses;
 pub mod laws;
 mod outcome;
+mod place;
+mod queue;
 mod signature;
 
 pub use counter::Counter;

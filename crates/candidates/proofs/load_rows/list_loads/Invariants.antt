@@ -1,6 +1,4 @@
 use Rattle.test_lang.specs.Program.{first_node}
-use Rattle.std.proofs.Common.{length}
-use Rattle.candidates.specs.Places.{AreInThreads, TellsPlaces}
 use Rattle.candidates.specs.Tables.{TellsLoads}
 use Rattle.candidates.proofs.OwnBlocks.{CountsStores}
 use Rattle.candidates.proofs.load_rows.list_loads.Given as goal
@@ -9,6 +7,4 @@ abbrev pub invariant-loop-thread : goal.invariant-loop-thread
 invariant-loop-thread l = record {
   counts : CountsStores l.test (first_node l.test l.thread) l.own;
   loads : TellsLoads l.test l.stores.values.items (first_node l.test l.thread) l.rows.items;
-  places : TellsPlaces l.test l.thread l.stores.rows.items l.places.items;
-  threads : AreInThreads l.test (length l.stores.rows.items) l.rows.items;
 }

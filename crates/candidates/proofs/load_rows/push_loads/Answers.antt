@@ -8,8 +8,6 @@ use Rattle.candidates.specs.Stores.{stores_to}
 use Rattle.candidates.specs.Tables.{TellsBlock, TellsBlocks, TellsList}
 use Rattle.candidates.proofs.StoreSteps.{stores_before-short}
 use Rattle.candidates.proofs.OwnBlocks.{IsRow, stands_in, thread_node, block_order, loads_load, loads_other, blocks_last, blocks_no_store}
-use Rattle.candidates.specs.Places.{IsInThread}
-use Rattle.candidates.proofs.PlaceRows.{in_threads_push}
 use Rattle.candidates.proofs.WordRows.{word_told}
 use Rattle.candidates.proofs.load_rows.push_loads.Goals as goal
 use Rattle.candidates.proofs.load_rows.push_loads.Goals.{in-Load+in_ok-push-in-Load, in-Store, in-Fence}
@@ -22,7 +20,7 @@ overflow_add-node-end c =
     omega (arith, within, few, first)
 
 pub loop-node-init : goal.loop-node-init
-loop-node-init c = rw c.first_of-first.ensures.first (record { blocks = c.requires.blocks; loads = c.requires.loads; threads = c.requires.threads })
+loop-node-init c = rw c.first_of-first.ensures.first (record { blocks = c.requires.blocks; loads = c.requires.loads })
 
 -- no store yet
 abbrev none : OwnStores
@@ -94,11 +92,9 @@ loop-node-preserved c =
           let count = all.count_is in
           let told = w.load_row.ensures in
           let row : IsRow p t n word w.index-all.result.now.front stores w.load_row.result = rw told (record { word_is = refl; front_is = refl; base_is = refl; from_is = refl; to_is = refl; skips_are = refl; count_is = omega (arith, count) }) in
-          let in_thread : IsInThread p (length c.args.stores.now.rows.items) w.load_row.result = rw told (record { thread = t; in_range = c.requires.thread; places_are = c.requires.places; from_is = block.from_is; to_is = block.to_is }) in
           rw (w.own-is, w.rows-is) (record {
             blocks = blocks_no_store p t n end (Load word) own is refl c.loop-node.invariant.blocks;
             loads = rw w.in_ok-push-in-Load.ensures.items (loads_load p t n word w.index-all.result.now.front table stores w.load_row.result rows is within block all.behind row c.loop-node.invariant.loads);
-            threads = rw w.in_ok-push-in-Load.ensures.items (in_threads_push p (length c.args.stores.now.rows.items) rows w.load_row.result c.loop-node.invariant.threads in_thread);
           })
       | in-Store w ↦
           let word = w.in-Store.word in
@@ -107,14 +103,12 @@ loop-node-preserved c =
           rw (w.own-is, w.rows-is, w.value_of.ensures.value) (record {
             blocks = blocks_last p t n end word own (get_or own word none) is (slice_get-get_or own word none (omega (arith, one, within))) c.loop-node.invariant.blocks;
             loads = loads_other p t n (Store word) table rows is refl c.loop-node.invariant.loads;
-            threads = c.loop-node.invariant.threads;
           })
       | in-Fence w ↦
           let is : slice_get (nodes p) n ≡ Some (t, Fence) = thread_node p t n Fence stands (c.op.ensures.found ∙ ap Some w.in-Fence.is) in
           rw (w.own-is, w.rows-is) (record {
             blocks = blocks_no_store p t n end Fence own is refl c.loop-node.invariant.blocks;
             loads = loads_other p t n Fence table rows is refl c.loop-node.invariant.loads;
-            threads = c.loop-node.invariant.threads;
           })
     ]
 
@@ -133,6 +127,3 @@ returns-clause-blocks c =
 
 pub returns-clause-loads : goal.returns-clause-loads
 returns-clause-loads c = rw (← ended c) c.loop-node.invariant.loads
-
-pub returns-clause-threads : goal.returns-clause-threads
-returns-clause-threads c = c.loop-node.invariant.threads

@@ -11,18 +11,18 @@ pub table_place-requires : goal.table_place-requires
 table_place-requires c =
     let p = c.args.self.now in
     let i = c.self.inside in
-    let tables = tables_of i.test p i.loads.rows.items i.stores.rows.items i.stores.values.items c.self.view_is c.self.invariant.0 in
-    let told = row_told p i.loads.rows.items i.stores.rows.items i.stores.values.items tables c.args.rank c.index-load.result.now c.requires.rank c.index-load.ensures in
+    let tables = tables_of i.test p i.loads.items i.stores.rows.items i.stores.values.items c.self.view_is c.self.invariant.0 in
+    let told = row_told p i.loads.items i.stores.rows.items i.stores.values.items tables c.args.rank c.index-load.result.now c.requires.rank c.index-load.ensures in
     told.skips_are
 
 pub index-other-requires : goal.index-other-requires
 index-other-requires c =
     let p = c.args.self.now in
     let i = c.self.inside in
-    let tables = tables_of i.test p i.loads.rows.items i.stores.rows.items i.stores.values.items c.self.view_is c.self.invariant.0 in
+    let tables = tables_of i.test p i.loads.items i.stores.rows.items i.stores.values.items c.self.view_is c.self.invariant.0 in
     let row = c.index-load.result.now in
-    let told = row_told p i.loads.rows.items i.stores.rows.items i.stores.values.items tables c.args.rank row c.requires.rank c.index-load.ensures in
-    let behind = row_behind p i.loads.rows.items i.stores.rows.items i.stores.values.items tables c.args.rank row c.requires.rank c.index-load.ensures in
+    let told = row_told p i.loads.items i.stores.rows.items i.stores.values.items tables c.args.rank row c.requires.rank c.index-load.ensures in
+    let behind = row_behind p i.loads.items i.stores.rows.items i.stores.values.items tables c.args.rank row c.requires.rank c.index-load.ensures in
     let here = table_place-within p (load_at p c.args.rank) row told c.args.place c.requires.place in
     let within = behind.within in
     let place = c.table_place.ensures in
@@ -34,11 +34,11 @@ returns c =
     let p = c.args.self.now in
     let i = c.self.inside in
     let table = i.stores.values.items in
-    let tables = tables_of i.test p i.loads.rows.items i.stores.rows.items table c.self.view_is c.self.invariant.0 in
+    let tables = tables_of i.test p i.loads.items i.stores.rows.items table c.self.view_is c.self.invariant.0 in
     let load = load_at p c.args.rank in
     let row = c.index-load.result.now in
-    let told = row_told p i.loads.rows.items i.stores.rows.items table tables c.args.rank row c.requires.rank c.index-load.ensures in
-    let behind = row_behind p i.loads.rows.items i.stores.rows.items table tables c.args.rank row c.requires.rank c.index-load.ensures in
+    let told = row_told p i.loads.items i.stores.rows.items table tables c.args.rank row c.requires.rank c.index-load.ensures in
+    let behind = row_behind p i.loads.items i.stores.rows.items table tables c.args.rank row c.requires.rank c.index-load.ensures in
     let place = c.args.place in
     let other = c.index-other.result.now in
     ⊎_elim

@@ -2,8 +2,8 @@ use Rattle.std.proofs.Common.{◌∙◌, sym, subst}
 use Rattle.std.proofs.lemmas.List.{append-nil}
 use Rattle.tally.specs.Rows.{Holds}
 use Rattle.tally.proofs.PlacedRows.{holds-pop, times-within}
-use Rattle.tally.proofs.batch.Batch.pop.Goals as goal
-use Rattle.tally.proofs.batch.Batch.pop.Goals.{in-Some, in_default}
+use Rattle.tally.proofs.queue.Queue.pop.Goals as goal
+use Rattle.tally.proofs.queue.Queue.pop.Goals.{in-Some, in_default}
 
 pub overflow_sub-self : goal.overflow_sub-self
 overflow_sub-self c = times-within c.self.inside.words.items c.self.inside.width c.self.inside.places.items c.pop.new.self.items c.in-Some.place c.self.inside.len c.self.invariant c.in-Some.ensures.items
