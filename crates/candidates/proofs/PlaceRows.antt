@@ -8,7 +8,7 @@ use Rattle.test_lang.proofs.Places.{slice_get_cases_end}
 use Rattle.candidates.specs.declared.store_lists.StoreRow.{StoreRow}
 use Rattle.candidates.specs.declared.load_rows.LoadRow.{LoadRow}
 use Rattle.candidates.specs.declared.place_table.PlaceRow.{PlaceRow}
-use Rattle.candidates.specs.Places.{TellsPlaces, found_place, told}
+use Rattle.candidates.specs.Places.{TellsPlaces, found_place, told_place}
 use Rattle.candidates.specs.Stores.{stores_to}
 use Rattle.candidates.specs.Tables.{PlacesStores}
 use Rattle.candidates.proofs.StoreSteps.{stores_before-short}
@@ -39,7 +39,7 @@ module _ (loads : List LoadRow) (stores : List StoreRow) where
   tells_none places e = record { rows_tell = λ rank value load store row is here found. let none = ap (λ rows. slice_get rows (rank * length stores + value)) e in absurd (cc (found, none)) }
 
   pub tells_push : (places new : List PlaceRow) (row : PlaceRow) (i v : ℕ) (load : LoadRow) (store : StoreRow) → new ≡ places ++ row ∷ [] → length places ≡ i * length stores + v → slice_get loads i ≡ Some load
-      → slice_get stores v ≡ Some store → told row ≡ found_place load v store → TellsPlaces loads stores places → TellsPlaces loads stores new
+      → slice_get stores v ≡ Some store → told_place row ≡ found_place load v store → TellsPlaces loads stores places → TellsPlaces loads stores new
   tells_push places new row i v load store more long is here tells h =
       let there = slice_get_within stores v store here in
       subst (TellsPlaces loads stores) (sym more) (record {
@@ -50,7 +50,7 @@ module _ (loads : List LoadRow) (stores : List StoreRow) where
             let same = one_row (length stores) rank value i v (last.0 ∙ long) (slice_get_within stores value store' here') there in
             let load_is : load ≡ load' = same_Some load load' (sym is ∙ ap (slice_get loads) (sym same.0) ∙ is') in
             let store_is : store ≡ store' = same_Some store store' (sym here ∙ ap (slice_get stores) (sym same.1) ∙ here') in
-            ap told (sym last.1) ∙ tells
+            ap told_place (sym last.1) ∙ tells
             ∙ ap (λ (l : LoadRow). found_place l v store) load_is
             ∙ ap (λ (n : ℕ). found_place load' n store) (sym same.1)
             ∙ ap (λ (s : StoreRow). found_place load' value s) store_is)

@@ -17,13 +17,13 @@ abbrev pub found_place : LoadRow → ℕ → StoreRow → Option ℕ
 found_place load value store = if value == load.base then Some 0 else (if is_other load store then Some (other_place load store) else None)
 
 -- what a row tells
-abbrev pub told : PlaceRow → Option ℕ
-told row = if row.is_candidate then Some row.place else None
+abbrev pub told_place : PlaceRow → Option ℕ
+told_place row = if row.is_candidate then Some row.place else None
 
 -- The table has a row for each value, those for the first load first, as far as it goes.
 pub record TellsPlaces (loads : List LoadRow) (stores : List StoreRow) (places : List PlaceRow) : Type 0 where
-  pub rows_tell : (rank value : ℕ) (load : LoadRow) (store : StoreRow) (row : PlaceRow) → slice_get loads rank ≡ Some load → slice_get stores value ≡ Some store →
-      slice_get places (rank * length stores + value) ≡ Some row → told row ≡ found_place load value store
+  pub rows_tell : (rank value : ℕ) (load : LoadRow) (store : StoreRow) (row : PlaceRow) →
+      slice_get loads rank ≡ Some load → slice_get stores value ≡ Some store → slice_get places (rank * length stores + value) ≡ Some row → told_place row ≡ found_place load value store
 
 -- It goes to the last load.
 pub record TabulatesPlaces (loads : List LoadRow) (stores : List StoreRow) (places : List PlaceRow) : Type 0 where

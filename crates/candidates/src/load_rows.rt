@@ -78,7 +78,8 @@ impl OwnStores {
 
 /// Begins the next thread, whose blocks begin where those of the thread before end.
 fn begin_thread(own: &mut [OwnStores])
-    ensures { own.new ≡ map (λ stores. record { from = stores.to; to = stores.to; last = 0 }) own.old }
+    ensures { own.new
+        ≡ map (λ stores. record { from = stores.to; to = stores.to; last = 0 }) own.old }
 {
     for stores in own.iter_mut() {
         *stores = OwnStores {
@@ -93,8 +94,10 @@ fn begin_thread(own: &mut [OwnStores])
 fn count_stores(test: &Test, thread: u32, own: &mut [OwnStores])
     requires thread { thread < length test.now.threads }
     requires few { op_count test.now ≤ 2048 }
-    requires blocks { TellsBlocks test.now thread (first_node test.now thread) (first_node test.now thread) own.old }
-    ensures { TellsBlocks test.now thread (first_node test.now thread + thread_length test.now thread) (first_node test.now thread) own.new }
+    requires blocks { let first = first_node test.now thread in
+        TellsBlocks test.now thread first first own.old }
+    ensures { let first = first_node test.now thread in
+        TellsBlocks test.now thread (first + thread_length test.now thread) first own.new }
 {
     let first = test.first_of(thread);
     for node in first..first + test.len_of(thread) {

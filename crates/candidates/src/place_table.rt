@@ -1,6 +1,6 @@
 //! Where each value stands among the candidates of each load.
 ghost use Rattle.std.specs.Prelude.{◌≡◌, ◌+◌, ◌^◌, ◌<◌, ◌≤◌, All, IfOk, length};
-ghost use Rattle.candidates.specs.Places.{TabulatesPlaces, found_place, told};
+ghost use Rattle.candidates.specs.Places.{TabulatesPlaces, found_place, told_place};
 
 use crate::load_rows::LoadRow;
 use crate::store_lists::StoreRow;
@@ -15,11 +15,11 @@ pub(crate) struct PlaceRow {
 }
 
 impl PlaceRow {
-    /// The row of a value, the store of which is that.
+    /// The row of the value whose store is this one.
     fn of(load: &LoadRow, value: u32, store: StoreRow) -> PlaceRow
         requires block { load.now.own_from ≤ load.now.own_to }
         requires room { store.place + 1 < 2 ^ 16 }
-        ensures { told result ≡ found_place load.now value store }
+        ensures { told_place result ≡ found_place load.now value store }
     {
         let is_before = store.place < load.own_from;
         let is_other = store.word == load.word && (is_before || load.own_to <= store.place);

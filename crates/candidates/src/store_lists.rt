@@ -64,7 +64,9 @@ impl StoreLists {
 
 /// The stores of the test, by word and by value.
 pub(crate) fn list_stores(alloc: Global, test: &Test) -> Result<StoreLists, AllocError>
-    ensures listed { IfOk result (λ stores. ListsStores test.now (op_count test.now) stores.rows.items (map (λ list. list.items) stores.lists.items)) }
+    ensures listed { IfOk result (λ stores.
+        let lists = map (λ list. list.items) stores.lists.items in
+        ListsStores test.now (op_count test.now) stores.rows.items lists) }
     ensures count { IfOk result (λ stores. length stores.rows.items ≡ store_count test.now + 1) }
     ensures limits { IsWithinLimits test.now }
 {

@@ -22,12 +22,18 @@ const LD_0: Op = Op::Load { word: 0 };
 
 const LD_1: Op = Op::Load { word: 1 };
 
-const CASES: [Case; 7] = [
+const CASES: [Case; 8] = [
     // No load.
     Case {
         words: 2,
         threads: &[&[], &[ST_0, Op::Fence]],
         candidates: &[],
+    },
+    // No store.
+    Case {
+        words: 2,
+        threads: &[&[LD_0, LD_1], &[LD_0]],
+        candidates: &[&[0], &[0], &[0]],
     },
     // The last own store is the only candidate.
     Case {
@@ -136,7 +142,8 @@ fn check_runs(
     assert_eq!(rt; candidates.first_outside(&run), None);
     // The later loads stay outside, and the first of them counts.
     for rank in (0..run.len()).rev() {
-        run[rank] = 9;
+        let outside = (0..).find(|value| !lists[rank].contains(value));
+        run[rank] = outside.unwrap_or(u32::MAX);
         assert_eq!(rt; run.len(), candidates.test().loads() as usize);
         assert_eq!(rt; candidates.first_outside(&run), Some(rank as u32));
     }
@@ -154,5 +161,28 @@ fn candidates_of_loads(rt: HostRuntime) -> Result<(), Fail> {
         }
         check_runs(&rt, rt.alloc(), &candidates, case.candidates)?;
     }
+    Ok(())
+}
+
+/// A load with more candidates than 8 bits tell apart.
+#[test]
+fn very_many_candidates(rt: HostRuntime) -> Result<(), Fail> {
+    let alloc = rt.alloc();
+    let mut test = Test::new(alloc, 1);
+    test.add_thread()?;
+    for _ in 0..300 {
+        assert!(rt; test.threads() > 0 && test.ops() < 2047);
+        test.add_op(ST_0)?;
+    }
+    assert!(rt; test.threads() < 16);
+    test.add_thread()?;
+    assert!(rt; test.threads() > 0 && test.ops() < 2048);
+    test.add_op(LD_0)?;
+    let candidates = Candidates::of(alloc, &test)?;
+    let mut list = Vec::new(alloc);
+    for value in 0..301 {
+        list.push(value)?;
+    }
+    check_load(&rt, &candidates, 0, &list, 303);
     Ok(())
 }

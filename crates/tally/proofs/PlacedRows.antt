@@ -1,26 +1,13 @@
 -- Rows that begin at places in one list of words, and how often each waits.
-use Rattle.std.proofs.Common.{◌≡◌, ◌∙◌, ℕ, ◌+◌, ◌-◌, ◌<◌, ◌≤◌, List, [], ◌∷◌, ◌++◌, length, take, drop, get_or, replicate, refl, sym, ap, arith, Some, append_assoc, length-append}
+use Rattle.std.proofs.Common.{◌≡◌, ◌∙◌, ℕ, ◌+◌, ◌-◌, ◌≤◌, List, [], ◌∷◌, ◌++◌, length, take, drop, replicate, refl, sym, ap, arith, Some, append_assoc, length-append}
 use Rattle.std.specs.Prelude.{IsPermutation, sum_by}
-use Rattle.std.proofs.lemmas.List.{append-nil, get_or-map, map-append, length-map, length-replicate}
+use Rattle.std.proofs.lemmas.List.{append-nil, map-append, length-replicate}
 use Rattle.std.proofs.lemmas.List.Elements.{All-pop}
 use Rattle.std.proofs.lemmas.List.Sorted.{IsPermutation-map, sum_by-IsPermutation}
 use Rattle.std.proofs.lemmas.List.Sums.{sum_by-cons}
 use Rattle.tally.specs.declared.place.Place.{Place}
 use Rattle.tally.specs.Counting.{all_rows}
 use Rattle.tally.specs.Rows.{FitsIn, Holds, rows_at}
-
-pub length-rows_at : (words : List ℕ) (width : ℕ) (places : List Place) → length (rows_at words width places) ≡ length places
-length-rows_at words width places = let entry : Place → List ℕ × ℕ = λ place. (take width (drop place.start words), place.times) in length-map places entry
-
--- the row of a place
-pub row-at : (words : List ℕ) (width : ℕ) (places : List Place) (i start : ℕ) (place : Place) (row : List ℕ) → i < length places → place ≡ get_or places i place → place.start ≡ start
-    → take width (drop start words) ≡ row → (get_or (rows_at words width places) i (row, 0)).0 ≡ row
-row-at words width places i start place row lt here begins is =
-    let entry : Place → List ℕ × ℕ = λ p. (take width (drop p.start words), p.times) in
-    ap (λ (e : List ℕ × ℕ). e.0) (get_or-map entry places i place (row, 0) lt)
-    ∙ ap (λ (p : Place). take width (drop p.start words)) (sym here)
-    ∙ ap (λ n. take width (drop n words)) begins
-    ∙ is
 
 -- the rows of two lists
 pub all_rows-append : (xs ys : List (List ℕ × ℕ)) → all_rows (xs ++ ys) ≡ all_rows xs ++ all_rows ys

@@ -4,7 +4,7 @@ use Rattle.std.specs.Prelude.{IsPermutation}
 use Rattle.std.proofs.Math.Nat.{add-mul, mul-le-mul_right, suc-mul, zero-mul}
 use Rattle.std.proofs.Math.Seq.{take-length}
 use Rattle.std.proofs.lemmas.Grind.{get_or_default_zero}
-use Rattle.std.proofs.lemmas.List.{drop-append-le, drop-drop, nil_from_length, map-append, take-append-le, take_more, length-replicate, length-set}
+use Rattle.std.proofs.lemmas.List.{drop-append-le, drop-drop, nil_from_length, map-append, take-append-le, take_more, length-set}
 use Rattle.std.proofs.lemmas.List.Elements.{All-push, All-set}
 use Rattle.std.proofs.lemmas.List.Sorted.{IsPermutation-append_right, IsPermutation-to_front, length_permutation}
 use Rattle.tally.specs.Counting.{all_rows}
@@ -75,18 +75,6 @@ module _ (width : ℕ) where
       (subst (λ rows. IsPermutation rows (front ++ after)) (sym (append_assoc front before (row ∷ [])))
       (IsPermutation-append_right front (before ++ row ∷ []) after (all_rows-raised (drop width words) times i d n (omega (arith, h)) is)))
 
-  -- how often one row waits is no more than all
-  pub times-le : (words times : List ℕ) (i d : ℕ) → i < length times → get_or times i d ≤ length (all_rows (rows_in words width times))
-  times-le words [] i d h = absurd (omega (arith, h))
-  times-le words (n ∷ times) zero d h =
-      let parts = length-append (replicate n (take width words)) (all_rows (rows_in (drop width words) width times)) in
-      let front = length-replicate n (take width words) in
-      omega (arith, parts, front)
-  times-le words (n ∷ times) (suc i) d h =
-      let parts = length-append (replicate n (take width words)) (all_rows (rows_in (drop width words) width times)) in
-      let rest = times-le (drop width words) times i d (omega (arith, h)) in
-      omega (arith, parts, rest)
-
   pub fills-push : (words times row : List ℕ) (len : ℕ) → Fills words width times len → length row ≡ width → Fills (words ++ row) width (times ++ 1 ∷ []) (len + 1)
   fills-push words times row len h wide =
       let before = h.whole in
@@ -115,7 +103,7 @@ module _ (width : ℕ) where
       let entry = row_in words times place (row, 0) within in
       record {
         within = omega (arith, within, length-rows_in words times);
-        is = ap (λ (e : List ℕ × ℕ). e.0) entry ∙ here;
+        row_is = ap (λ (e : List ℕ × ℕ). e.0) entry ∙ here;
         fits = subst (λ k. k + 1 < 2 ^ 32) (is ∙ get_or_default_zero times place n within ∙ sym (ap (λ (e : List ℕ × ℕ). e.1) entry)) few;
       }
 

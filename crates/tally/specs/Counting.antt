@@ -24,8 +24,8 @@ all_rows [] = []
 all_rows (entry ∷ entries) = replicate entry.1 entry.0 ++ all_rows entries
 
 -- the rows that wait to be counted now, and those that wait behind them
-abbrev pub waiting : Waiting → Waiting → List (List ℕ)
-waiting queue batch = all_rows (queue.rows ++ batch.rows)
+abbrev pub waiting_rows : Waiting → Waiting → List (List ℕ)
+waiting_rows queue batch = all_rows (queue.rows ++ batch.rows)
 
 -- the last row is this one, and it waits so often, once at least
 pub record EndsWith (entries : List (List ℕ × ℕ)) (row : List ℕ) (times : ℕ) : Type 0 where

@@ -17,7 +17,7 @@ pub record Fills (words : List ℕ) (width : ℕ) (times : List ℕ) (len : ℕ)
 -- the row stands at the place, and can wait there once more in 32 bits
 pub record HasRoomAt (rows : List (List ℕ × ℕ)) (place : ℕ) (row : List ℕ) : Type 0 where
   pub within : place < length rows
-  pub is : (slice_index_or rows place (row, 0)).0 ≡ row
+  pub row_is : (slice_index_or rows place (row, 0)).0 ≡ row
   pub fits : (slice_index_or rows place (row, 0)).1 + 1 < 2 ^ 32
 
 -- the rows of this width that begin at the places, and how often each waits

@@ -16,7 +16,7 @@ const ROWS: usize = NONE as usize;
 /// So many words fill a batch, however few rows they make.
 const WORDS: usize = 1 << 18;
 
-/// A list of rows of `width` words each, and how often each waits. Its memory serves again once it was cleared.
+/// A list of rows of `width` words each, and how often each waits. Its memory serves again, that of the words by turns with a queue's.
 #[derive(Drop)]
 pub(crate) struct Batch {
     width: usize,
@@ -37,7 +37,10 @@ impl Model for Batch {
 
     ghost use Rattle.tally.specs.Rows.{Fills, rows_in};
 
-    ghost view = { λ b. record { width = b.width; rows = rows_in b.words.items b.width b.times.items } };
+    ghost view = { λ b. record {
+      width = b.width;
+      rows = rows_in b.words.items b.width b.times.items;
+    } };
 
     ghost invariant = { λ b. Fills b.words.items b.width b.times.items b.len };
 }
@@ -66,7 +69,8 @@ impl Batch {
         requires width { length row.now ≡ self.old.width }
         requires room { length (all_rows self.old.rows) + 1 < 2 ^ 64 }
         ensures width { self.new.width ≡ self.old.width }
-        ensures pushed { OnOk result (IsPermutation (all_rows self.old.rows ++ row.now ∷ []) (all_rows self.new.rows)) }
+        ensures pushed { OnOk result
+            (IsPermutation (all_rows self.old.rows ++ row.now ∷ []) (all_rows self.new.rows)) }
         ensures refused { OnErr result (self.new ≡ self.old) }
     {
         let hash = hash(row);
@@ -80,7 +84,7 @@ impl Batch {
         Ok(())
     }
 
-    /// Where the row stands, if a guess leads there, and otherwise the way on which it is guessed from now on.
+    /// Where the row stands and can wait once more, if a guess leads there, and otherwise the way on which it is guessed from now on.
     fn find(&self, row: &[u64], hash: u64) -> Result<usize, usize>
         requires { length row.now ≡ self.now.width }
         ensures { IfOk result (λ place. HasRoomAt self.now.rows place row.now) }
@@ -183,7 +187,7 @@ impl Batch {
     }
 }
 
-/// Lists where rows begin that stand one after another, and how often each waits.
+/// Lists where rows begin that stand one after another, and how often each waits. `Err` means want of memory; then some are listed.
 fn push_places(
     words: &[u64],
     width: usize,

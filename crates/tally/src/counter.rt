@@ -1,7 +1,7 @@
 //! Counting the outcomes of very many runs, one after another.
 ghost use Rattle.std.specs.Prelude.{◌≡◌, ℕ, ◌+◌, ◌-◌, ◌^◌, ◌<◌, ◌≤◌, List, [], ◌∷◌, ◌++◌, length, OnOk, OnErr, IfOk};
 ghost use Rattle.tally.specs.declared.outcome.Outcome.{Outcome};
-ghost use Rattle.tally.specs.Counting.{CanCount, HasCounted, all_rows, waiting, with_rows};
+ghost use Rattle.tally.specs.Counting.{CanCount, HasCounted, all_rows, waiting_rows, with_rows};
 ghost use Rattle.tally.specs.Tallies.{IsCounts, IsTally, total_of, with_more, with_one_more};
 
 use crate::batch::Batch;
@@ -16,7 +16,8 @@ use std::marker::Model;
 /// All signatures that it is given have the same number of words, its width.
 ///
 /// Signatures wait in a batch, where one that comes again is found by a hash and only raises a number. When the batch is full its
-/// signatures are sorted and counted, each with its number: a search for each of them, and no memory but for those that are new.
+/// signatures are sorted and counted, each with its number: a search for each of them. Batches take memory for two lists of words and
+/// one of places, which serve again, and otherwise only signatures that are new take any.
 #[derive(Drop)]
 pub struct Counter {
     alloc: Global,
@@ -28,14 +29,17 @@ pub struct Counter {
 }
 
 impl Model for Counter {
-    ghost use Rattle.tally.specs.Counting.{CanCount, Counting, waiting, with_rows};
+    ghost use Rattle.tally.specs.Counting.{CanCount, Counting, waiting_rows, with_rows};
     ghost use Rattle.std.specs.Prelude.{◌≡◌};
 
     ghost Value = { Counting };
 
-    ghost view = { λ c. record { width = c.batch.width; pairs = with_rows c.tally (waiting c.queue c.batch) } };
+    ghost view = { λ c. record {
+      width = c.batch.width;
+      pairs = with_rows c.tally (waiting_rows c.queue c.batch);
+    } };
 
-    ghost invariant = { λ c. CanCount c.tally (waiting c.queue c.batch)
+    ghost invariant = { λ c. CanCount c.tally (waiting_rows c.queue c.batch)
         × (c.queue.width ≡ c.batch.width) };
 }
 
@@ -148,14 +152,15 @@ fn empty_batch(
     tally: &mut Tally,
     probe: &mut Outcome,
 ) -> Result<(), AllocError>
-    requires can { CanCount tally.old (waiting queue.old batch.old) }
+    requires can { CanCount tally.old (waiting_rows queue.old batch.old) }
     requires width { queue.old.width ≡ batch.old.width }
-    ensures sound { CanCount tally.new (waiting queue.new batch.new) }
+    ensures sound { CanCount tally.new (waiting_rows queue.new batch.new) }
     ensures width { queue.new.width ≡ queue.old.width }
     ensures batch_width { batch.new.width ≡ batch.old.width }
-    ensures same { with_rows tally.new (waiting queue.new batch.new)
-        ≡ with_rows tally.old (waiting queue.old batch.old) }
-    ensures emptied { OnOk result (waiting queue.new batch.new ≡ []) }
+    ensures same { with_rows tally.new (waiting_rows queue.new batch.new)
+        ≡ with_rows tally.old (waiting_rows queue.old batch.old) }
+    ensures emptied { OnOk result (queue.new.rows ≡ []) }
+    ensures batch_emptied { OnOk result (batch.new.rows ≡ []) }
 {
     count_queue(alloc, queue, tally, probe)?;
     queue.take_rows(batch)?;

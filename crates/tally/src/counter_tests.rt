@@ -10,7 +10,10 @@ fn count(counter: &mut Counter, row: &[u64]) -> Result<(), Fail> {
     if row.len() != counter.width() || counter.total() == u64::MAX {
         return Err("no room, or another width")?;
     }
-    counter.count(row)?;
+    if counter.count(row).is_err() {
+        // What was counted stands after a refusal, and so it may be tried again.
+        counter.count(row)?;
+    }
     Ok(())
 }
 
@@ -110,7 +113,7 @@ fn batches_that_fill(rt: HostRuntime) -> Result<(), Fail> {
         let mut counter = Counter::new(alloc, width);
         let mut tally = Tally::new(alloc);
         for at in 0..rows {
-            let row = vec![in alloc; at * 7 % 5; width]?;
+            let row = vec![in alloc; at * 7 % 65_537; width]?;
             count(&mut counter, &row)?;
             if at % 1000 == 1 {
                 count_outside(&mut counter, 7, 8)?;
@@ -135,5 +138,28 @@ fn batches_that_fill(rt: HostRuntime) -> Result<(), Fail> {
             "{rows} rows of {width} words"
         );
     }
+    Ok(())
+}
+
+/// Rows that all have the same hash, so that guesses don't find most of them.
+#[test]
+fn rows_of_one_hash(rt: HostRuntime) -> Result<(), Fail> {
+    let alloc = rt.alloc();
+    let mut counter = Counter::new(alloc, 1);
+    for at in 0u64..200_000 {
+        // A multiple of the inverse of the number that spreads bits, so that the hash is the multiplier.
+        let word = (at % 6).wrapping_mul(0xf1de_83e1_9937_733d);
+        count(&mut counter, &[word])?;
+    }
+    let tally = counter.finish()?;
+    let mut counts = Vec::new(alloc);
+    for (_, count) in tally.iter() {
+        counts.push(count)?;
+    }
+    counts.sort_unstable();
+    assert_eq!(rt;
+        counts.as_slice(),
+        [33_333, 33_333, 33_333, 33_333, 33_334, 33_334].as_slice()
+    );
     Ok(())
 }

@@ -8,7 +8,7 @@ use std::alloc::{AllocError, Global};
 use std::marker::Model;
 
 /// Rows of `width` words each, and how often each waits: those of a batch, of which the last is counted first.
-/// Its memory serves again once it is empty.
+/// Its memory serves again for the rows of the next batch.
 #[derive(Drop)]
 pub(crate) struct Queue {
     width: usize,
@@ -25,7 +25,10 @@ impl Model for Queue {
 
     ghost use Rattle.tally.specs.Rows.{Holds, rows_at};
 
-    ghost view = { λ q. record { width = q.width; rows = rows_at q.words.items q.width q.places.items } };
+    ghost view = { λ q. record {
+      width = q.width;
+      rows = rows_at q.words.items q.width q.places.items;
+    } };
 
     ghost invariant = { λ q. Holds q.words.items q.width q.places.items q.len };
 }
@@ -93,9 +96,6 @@ impl Queue {
     {
         if let Some(place) = self.places.pop() {
             self.len -= place.times;
-        }
-        if self.places.is_empty() {
-            self.words.clear();
         }
     }
 
