@@ -126,6 +126,16 @@ fn check_load(rt: &impl Abort, candidates: &Candidates, rank: u32, list: &[u32],
     assert_eq!(rt; candidates.index(rank, u32::MAX), None);
 }
 
+/// The first value that isn't in the list.
+fn first_without(list: &[u32]) -> u32 {
+    for value in 0..u32::MAX {
+        if !list.contains(&value) {
+            return value;
+        }
+    }
+    u32::MAX
+}
+
 /// Holds the first load outside of a run against the one that was changed to a value that is no candidate's.
 fn check_runs(
     rt: &impl Abort,
@@ -142,8 +152,8 @@ fn check_runs(
     assert_eq!(rt; candidates.first_outside(&run), None);
     // The later loads stay outside, and the first of them counts.
     for rank in (0..run.len()).rev() {
-        let outside = (0..).find(|value| !lists[rank].contains(value));
-        run[rank] = outside.unwrap_or(u32::MAX);
+        assert!(rt; rank < lists.len());
+        run[rank] = first_without(lists[rank]);
         assert_eq!(rt; run.len(), candidates.test().loads() as usize);
         assert_eq!(rt; candidates.first_outside(&run), Some(rank as u32));
     }
@@ -168,16 +178,8 @@ fn candidates_of_loads(rt: HostRuntime) -> Result<(), Fail> {
 #[test]
 fn very_many_candidates(rt: HostRuntime) -> Result<(), Fail> {
     let alloc = rt.alloc();
-    let mut test = Test::new(alloc, 1);
-    test.add_thread()?;
-    for _ in 0..300 {
-        assert!(rt; test.threads() > 0 && test.ops() < 2047);
-        test.add_op(ST_0)?;
-    }
-    assert!(rt; test.threads() < 16);
-    test.add_thread()?;
-    assert!(rt; test.threads() > 0 && test.ops() < 2048);
-    test.add_op(LD_0)?;
+    let stores = vec![in alloc; ST_0; 300]?;
+    let test = build(&rt, alloc, 1, &[stores.as_slice(), &[LD_0]])?;
     let candidates = Candidates::of(alloc, &test)?;
     let mut list = Vec::new(alloc);
     for value in 0..301 {
