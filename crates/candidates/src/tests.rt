@@ -241,20 +241,33 @@ fn answers_runs(
     Ok(true)
 }
 
-/// Whether the tables of a case answer so.
-fn answers(alloc: Global, case: &Case) -> Result<bool, AllocError> {
-    let test = build(alloc, case.words, case.threads)?;
-    let values = test.stores().saturating_add(2);
-    let candidates = Candidates::of(alloc, &test)?;
-    if case.candidates.len() != loads_of(&candidates) {
-        return Ok(false);
-    }
-    for (rank, list) in case.candidates.iter().enumerate() {
-        if !answers_load(alloc, &candidates, rank, list, values)? {
+fn tables_of(alloc: Global, words: u32, threads: &[&[Op]]) -> Result<Candidates, AllocError> {
+    let test = build(alloc, words, threads)?;
+    Candidates::of(alloc, &test)
+}
+
+/// Whether the tables answer of all loads so.
+fn answers_loads(
+    alloc: Global,
+    candidates: &Candidates,
+    lists: &[&[u32]],
+) -> Result<bool, AllocError> {
+    let values = candidates.test().stores().saturating_add(2);
+    for (rank, list) in lists.iter().enumerate() {
+        if !answers_load(alloc, candidates, rank, list, values)? {
             return Ok(false);
         }
     }
-    answers_runs(alloc, &candidates, case.candidates)
+    Ok(lists.len() == loads_of(candidates))
+}
+
+/// Whether the tables of a case answer so.
+fn answers(alloc: Global, case: &Case) -> Result<bool, AllocError> {
+    let candidates = tables_of(alloc, case.words, case.threads)?;
+    Ok(
+        answers_loads(alloc, &candidates, case.candidates)?
+            && answers_runs(alloc, &candidates, case.candidates)?,
+    )
 }
 
 /// The first case whose tables don't.
@@ -267,15 +280,19 @@ fn first_wrong(alloc: Global) -> Result<Option<usize>, AllocError> {
     Ok(None)
 }
 
-/// Whether a load answers so that has more candidates than 8 bits tell apart.
-fn very_many_answer(alloc: Global) -> Result<bool, AllocError> {
-    let test = build(alloc, 1, &[&[ST_0; 300], &[LD_0]])?;
-    let candidates = Candidates::of(alloc, &test)?;
+/// The values below this one.
+fn values_below(alloc: Global, end: u32) -> Result<Vec<u32>, AllocError> {
     let mut list = Vec::new(alloc);
-    for value in 0..301 {
+    for value in 0..end {
         list.push(value)?;
     }
-    answers_load(alloc, &candidates, 0, &list, 303)
+    Ok(list)
+}
+
+/// Whether a load answers so that has more candidates than 8 bits tell apart.
+fn very_many_answer(alloc: Global) -> Result<bool, AllocError> {
+    let candidates = tables_of(alloc, 1, &[&[ST_0; 300], &[LD_0]])?;
+    answers_load(alloc, &candidates, 0, &values_below(alloc, 301)?, 303)
 }
 
 #[test]
