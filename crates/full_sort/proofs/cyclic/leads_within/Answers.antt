@@ -1,5 +1,6 @@
 -- The edges that the walk has passed tick once each.
-use Rattle.std.proofs.Common.{◌≡◌, ℕ, length, get_or, arith, subst, sym}
+use Rattle.std.proofs.Common.{◌≡◌, ℕ, length, get_or, arith}
+use Rattle.std.proofs.lemmas.Grind.{common_steps}
 use Rattle.digraph.specs.Digraph.{out_degree, source_of, target_of}
 use Rattle.full_sort.proofs.EdgeWalks.{stands_here, walk_begin, walk_on}
 use Rattle.full_sort.proofs.Ticks.{ticks-begin, ticks-on, with_key-all}
@@ -32,9 +33,8 @@ loop-next-preserved g c =
     let before = l.invariant.later in
     let more = next.ticks in
     let target = c.target.ensures.value in
-    let other = c.if-numbers-target.false in
     record {
-      walk = walk_on (source_of es) node (length es) Other edge l.next c.next_out-next.result c.in-Some.is next.last (λ same. other (subst (λ (t : ℕ). get_or c.args.numbers.now t 0 ≡ get_or c.args.numbers.now node 0) (sym target) same)) l.invariant.walk;
+      walk = walk_on (source_of es) node (length es) Other edge l.next c.next_out-next.result c.in-Some.is next.last (λ same. grind (arith, common_steps, target, same)) l.invariant.walk;
       ticked = ticks-on (λ x. x.0) es node c.args.steps.now l.steps c.next_out-next.new.steps (out_degree es node) edge l.next c.next_out-next.result c.in-Some.is (omega (arith, below)) here.1 next.last l.invariant.ticked next.ticks;
       later = omega (arith, before, more);
     }
