@@ -5,7 +5,7 @@ use Rattle.test_lang.specs.declared.text.fault.TestFault.{TestFault}
 use Rattle.test_lang.specs.declared.text.fault.TestFault.TheVariants.{Memory}
 use Rattle.test_lang.specs.Text.Grammar.{StartsWithTest}
 use Rattle.test_lang.specs.Text.Reading.{reading as reading_of_test}
-use Rattle.test_lang.specs.Text.Refusal.{Means, IsRefused as IsRefusedTest}
+use Rattle.test_lang.specs.Text.Refusal.{TextMeans, IsRefused as IsRefusedTest}
 use Rattle.test_lang.proofs.TextLemmas.Readings.{means_reading, reading_means}
 use Rattle.run_text.specs.declared.fault.RunFault.{RunFault}
 use Rattle.run_text.specs.declared.fault.RunFault.TheVariants.{Memory as MemoryOfRuns}
@@ -24,7 +24,7 @@ behind_a_test : (bytes : List ℕ) (p : Program) (rest : List ℕ) (read : Resul
 behind_a_test bytes p rest (Ok runs) starts h = inl (p, runs, record { test = subst (StartsWithTest bytes p) h.1 starts; each = h.0 })
 behind_a_test bytes p rest (Err fault) starts h = inr (Runs fault, (p, rest, starts, h))
 
-by_test : (bytes : List ℕ) (read : Result Program TestFault) → Means bytes read → SaysSomething bytes
+by_test : (bytes : List ℕ) (read : Result Program TestFault) → TextMeans bytes read → SaysSomething bytes
 by_test bytes (Ok p) h =
     let behind = behind_test p h.0 in
     behind_a_test bytes p h.0 (reading behind) h.1 ((reading_is_meaning behind (reading behind) refl).0 refl)
