@@ -5,7 +5,7 @@ use Rattle.test_lang.specs.declared.text.fault.TestFault.{TestFault}
 use Rattle.test_lang.specs.declared.text.fault.TestFault.TheVariants.{BadHead, BadWords, BadLine, WordRange, TooManyThreads, TooManyOps, NoThread, NoEnd, Memory}
 use Rattle.test_lang.specs.Text.Grammar.{StartsWithTest}
 use Rattle.test_lang.specs.Text.Reading.{reading as reading_of_test}
-use Rattle.test_lang.specs.Text.Refusal.{Means, IsRefused as IsRefusedTest}
+use Rattle.test_lang.specs.Text.Refusal.{TextMeans, IsRefused as IsRefusedTest}
 use Rattle.test_lang.proofs.TextLemmas.Readings.{reading_means}
 use Rattle.run_text.specs.declared.fault.RunFault.{RunFault}
 use Rattle.run_text.specs.declared.fault.RunFault.TheVariants.{BadRunLine, WrongCount, ValueRange, NoDone, AfterDone, Memory as MemoryOfRuns}
@@ -40,7 +40,7 @@ module _ (bytes : List ℕ) where
   behind_a_test p rest (Ok runs) starts h = inl (p, runs, record { test = subst (StartsWithTest bytes p) h.1 starts; each = h.0 })
   behind_a_test p rest (Err refusal) starts h = inr (named_behind p rest refusal starts h)
 
-  by_test : (read : Result Program TestFault) → Means bytes read → ((q : Program) × (runs : List (List ℕ)) × AreRecordedRuns bytes q runs) ⊎ ((fault : InputFault) × AreRefusedRecords bytes fault)
+  by_test : (read : Result Program TestFault) → TextMeans bytes read → ((q : Program) × (runs : List (List ℕ)) × AreRecordedRuns bytes q runs) ⊎ ((fault : InputFault) × AreRefusedRecords bytes fault)
   by_test (Ok p) h =
       let behind = behind_test p h.0 in
       behind_a_test p h.0 (reading behind) h.1 ((reading_is_meaning behind (reading behind) refl).0 refl)
