@@ -20,7 +20,7 @@ use Rattle.mtrace_app.specs.declared.refusal.Size.{Size}
 use Rattle.mtrace_app.specs.Answers.{IsTooLarge, RefusesInput}
 use Rattle.mtrace_app.specs.Counted.{AreCounted, AreCountedWithin}
 use Rattle.mtrace_app.specs.Failures.{IfRefused}
-use Rattle.mtrace_app.specs.Inputs.{AreRecordedRuns, AreRefusedRecords, RecordsBy, RefusesBy}
+use Rattle.mtrace_app.specs.Inputs.{AreRecordedRuns, AreRefusedRuns, RecordsBy, RefusesBy}
 use Rattle.mtrace_app.specs.Limits.{FitLimits, PassLimit}
 use Rattle.mtrace_app.specs.Outputs.{IsOutputOf, OutputsBy}
 use Rattle.mtrace_app.specs.Report.{AreJudged, IsReport, work_alone}
@@ -58,11 +58,11 @@ module _ (s : Settings) (check : s.command ≡ Check) (bytes : List ℕ) where
   as_recorded : (p : Program) (runs : List (List ℕ)) → AreRecordedRuns bytes p runs → RecordsBy s.command bytes p runs
   as_recorded p runs h = subst (λ (c : Command). RecordsBy c bytes p runs) (sym check) h
 
-  refuses : (refusal : Refusal) → ((fault : InputFault) × (refusal ≡ Input fault) × AreRefusedRecords bytes fault) → RefusesInput s bytes refusal
+  refuses : (refusal : Refusal) → ((fault : InputFault) × (refusal ≡ Input fault) × AreRefusedRuns bytes fault) → RefusesInput s bytes refusal
   refuses refusal h = subst (RefusesInput s bytes) (sym h.1) (subst (λ (c : Command). RefusesBy c bytes h.0) (sym check) h.2)
 
   -- an input that wasn't read
-  pub refuses_input : (failure : Failure) → IfRefused (λ refusal. (fault : InputFault) × (refusal ≡ Input fault) × AreRefusedRecords bytes fault) failure → IfRefused (RefusesInput s bytes) failure
+  pub refuses_input : (failure : Failure) → IfRefused (λ refusal. (fault : InputFault) × (refusal ≡ Input fault) × AreRefusedRuns bytes fault) failure → IfRefused (RefusesInput s bytes) failure
   refuses_input (Refused refusal) h = refuses refusal h
   refuses_input Memory h = tt
 

@@ -8,25 +8,24 @@ use Rattle.test_lang.specs.Text.Refusal.{IsRefused as IsRefusedTest}
 use Rattle.run_text.specs.declared.fault.RunFault.{RunFault}
 use Rattle.run_text.specs.declared.fault.RunFault.TheVariants.{BadRunLine, WrongCount, ValueRange, NoDone, AfterDone, Memory}
 use Rattle.run_text.specs.Runs.{reading, IsRefused}
-use Rattle.run_text.proofs.Runs.{reading_is_meaning}
+use Rattle.run_text.proofs.Runs.{reading_is_meaning, reading_is_text}
 use Rattle.mtrace_app.specs.declared.failure.Failure.{Failure}
 use Rattle.mtrace_app.specs.declared.refusal.InputFault.{InputFault}
 use Rattle.mtrace_app.specs.declared.refusal.Refusal.{Refusal}
 use Rattle.mtrace_app.specs.declared.refusal.Refusal.TheVariants.{Input}
 use Rattle.mtrace_app.specs.Counted.{FailsBehind}
 use Rattle.mtrace_app.specs.Failures.{IfRefused, failure_of}
-use Rattle.mtrace_app.specs.Inputs.{AreRecordedRuns, AreRefusedRecords, in_test, in_runs, behind_test, fault_behind_test, fault_in_test, text_behind}
+use Rattle.mtrace_app.specs.Inputs.{AreRecordedRuns, AreRefusedRuns, in_test, behind, behind_test, fault_behind_test, fault_in_test, text_behind}
 
 -- the runs that were read behind a test were recorded
 pub recorded_by : (bytes : List ℕ) (p q : Program) (rest : List ℕ) (line : ℕ) (runs : List (List ℕ)) → q ≡ p → StartsWithTest bytes p rest → reading (text_behind q line rest) ≡ Ok runs → AreRecordedRuns bytes p runs
 recorded_by bytes p q rest line runs same starts e =
     let at_test = subst (λ (t : Program). reading (text_behind t line rest) ≡ Ok runs) same e in
-    let means = (reading_is_meaning (text_behind p line rest) (Ok runs) refl).0 at_test in
-    record { test = subst (StartsWithTest bytes p) means.1 starts; each = means.0 }
+    record { rest = rest; test = starts; text = (reading_is_text (text_behind p line rest) runs refl).0 at_test }
 
 -- the refusal, if there is one, refuses the input
 abbrev pub RefusesBytes : List ℕ → Refusal → Type 0
-RefusesBytes bytes refusal = (fault : InputFault) × (refusal ≡ Input fault) × AreRefusedRecords bytes fault
+RefusesBytes bytes refusal = (fault : InputFault) × (refusal ≡ Input fault) × AreRefusedRuns bytes fault
 
 failed_in_test : (bytes : List ℕ) (refusal : TestFault) → IsRefusedTest bytes refusal → IfRefused (RefusesBytes bytes) (failure_of (fault_in_test refusal))
 failed_in_test bytes (BadHead line) h = (_, refl, in_test (BadHead line) h refl)
@@ -54,11 +53,11 @@ module _ (bytes : List ℕ) (p : Program) (rest : List ℕ) (starts : StartsWith
   ]
 
   failed_behind : (refusal : RunFault) → (refusal ≡ Memory) ⊎ (reading (behind_test p rest) ≡ Err refusal) → IfRefused (RefusesBytes bytes) (failure_of (fault_behind_test refusal))
-  failed_behind (BadRunLine line) h = (_, refl, in_runs p rest (BadRunLine line) starts (refused_behind (BadRunLine line) (λ e. cc) h) refl)
-  failed_behind (WrongCount line want got) h = (_, refl, in_runs p rest (WrongCount line want got) starts (refused_behind (WrongCount line want got) (λ e. cc) h) refl)
-  failed_behind (ValueRange line) h = (_, refl, in_runs p rest (ValueRange line) starts (refused_behind (ValueRange line) (λ e. cc) h) refl)
-  failed_behind (NoDone line) h = (_, refl, in_runs p rest (NoDone line) starts (refused_behind (NoDone line) (λ e. cc) h) refl)
-  failed_behind (AfterDone line) h = (_, refl, in_runs p rest (AfterDone line) starts (refused_behind (AfterDone line) (λ e. cc) h) refl)
+  failed_behind (BadRunLine line) h = (_, refl, behind p rest (BadRunLine line) starts (refused_behind (BadRunLine line) (λ e. cc) h) refl)
+  failed_behind (WrongCount line want got) h = (_, refl, behind p rest (WrongCount line want got) starts (refused_behind (WrongCount line want got) (λ e. cc) h) refl)
+  failed_behind (ValueRange line) h = (_, refl, behind p rest (ValueRange line) starts (refused_behind (ValueRange line) (λ e. cc) h) refl)
+  failed_behind (NoDone line) h = (_, refl, behind p rest (NoDone line) starts (refused_behind (NoDone line) (λ e. cc) h) refl)
+  failed_behind (AfterDone line) h = (_, refl, behind p rest (AfterDone line) starts (refused_behind (AfterDone line) (λ e. cc) h) refl)
   failed_behind Memory h = tt
 
   -- what wasn't read behind a test refuses the input

@@ -9,9 +9,9 @@ use Rattle.test_lang.specs.Text.Refusal.{IsRefused as IsRefusedTest}
 use Rattle.test_lang.proofs.TextLemmas.Readings.{means_reading}
 use Rattle.run_text.specs.declared.fault.RunFault.{RunFault}
 use Rattle.run_text.specs.Runs.{reading, runs_text, RunsMean}
-use Rattle.run_text.proofs.Runs.{reading_is_meaning}
+use Rattle.run_text.proofs.Runs.{reading_is_meaning, reading_is_text}
 use Rattle.mtrace_app.specs.declared.refusal.InputFault.{InputFault}
-use Rattle.mtrace_app.specs.Inputs.{AreRecordedRuns, AreRefusedRecords, in_test, in_runs, behind_test, fault_in_test, fault_behind_test}
+use Rattle.mtrace_app.specs.Inputs.{AreRecordedRuns, AreRefusedRuns, in_test, behind, behind_test, fault_in_test, fault_behind_test}
 
 module _ (bytes : List ℕ) where
   pub same_test : (p q : Program) (rest others : List ℕ) → StartsWithTest bytes p rest → StartsWithTest bytes q others → p ≡ q
@@ -32,28 +32,31 @@ module _ (bytes : List ℕ) where
       let readers = ap (λ (t : Program). reading (behind_test t rest)) tests ∙ ap (λ (t : List ℕ). reading (behind_test q t)) texts in
       sym ((reading_is_meaning (behind_test p rest) read refl).1 h) ∙ readers ∙ (reading_is_meaning (behind_test q others) other refl).1 k
 
+  runs_mean : (p : Program) (runs : List (List ℕ)) → (h : AreRecordedRuns bytes p runs) → RunsMean (behind_test p h.rest) (Ok runs)
+  runs_mean p runs h = (reading_is_meaning (behind_test p h.rest) (Ok runs) refl).0 ((reading_is_text (behind_test p h.rest) runs refl).1 h.text)
+
   pub one_meaning : (p q : Program) (runs others : List (List ℕ)) → AreRecordedRuns bytes p runs → AreRecordedRuns bytes q others → (p ≡ q) × (runs ≡ others)
   one_meaning p q runs others a b =
-      let read = same_reading p q (runs_text runs) (runs_text others) (Ok runs) (Ok others) a.test b.test (a.each, refl) (b.each, refl) in
-      (same_test p q (runs_text runs) (runs_text others) a.test b.test, (let e : runs ≡ others = cc in e))
+      let read = same_reading p q a.rest b.rest (Ok runs) (Ok others) a.test b.test (runs_mean p runs a) (runs_mean q others b) in
+      (same_test p q a.rest b.rest a.test b.test, (let e : runs ≡ others = cc in e))
 
   not_a_test : (p : Program) (rest : List ℕ) (refusal : TestFault) → StartsWithTest bytes p rest → IsRefusedTest bytes refusal → ⊥
   not_a_test p rest refusal starts refused =
       let same = sym (means_reading bytes (Ok p) (rest, starts)) ∙ means_reading bytes (Err refusal) refused in cc
 
-  pub not_both : (p : Program) (runs : List (List ℕ)) (fault : InputFault) → AreRecordedRuns bytes p runs → AreRefusedRecords bytes fault → ⊥
-  not_both p runs fault a (in_test refusal refused named) = not_a_test p (runs_text runs) refusal a.test refused
-  not_both p runs fault a (in_runs q rest refusal starts refused named) =
-      let read = same_reading p q (runs_text runs) rest (Ok runs) (Err refusal) a.test starts (a.each, refl) refused in cc
+  pub not_both : (p : Program) (runs : List (List ℕ)) (fault : InputFault) → AreRecordedRuns bytes p runs → AreRefusedRuns bytes fault → ⊥
+  not_both p runs fault a (in_test refusal refused named) = not_a_test p a.rest refusal a.test refused
+  not_both p runs fault a (behind q rest refusal starts refused named) =
+      let read = same_reading p q a.rest rest (Ok runs) (Err refusal) a.test starts (runs_mean p runs a) refused in cc
 
-  pub one_refusal : (fault other : InputFault) → AreRefusedRecords bytes fault → AreRefusedRecords bytes other → fault ≡ other
+  pub one_refusal : (fault other : InputFault) → AreRefusedRuns bytes fault → AreRefusedRuns bytes other → fault ≡ other
   one_refusal fault other (in_test r h named) (in_test t k also) =
       let same = sym (means_reading bytes (Err r) h) ∙ means_reading bytes (Err t) k in
       let e : r ≡ t = cc in
       let same_name : Some fault ≡ Some other = sym named ∙ ap fault_in_test e ∙ also in cc
-  one_refusal fault other (in_test r h named) (in_runs q rest t starts k also) = absurd (not_a_test q rest r starts h)
-  one_refusal fault other (in_runs p rest r starts h named) (in_test t k also) = absurd (not_a_test p rest t starts k)
-  one_refusal fault other (in_runs p rest r starts h named) (in_runs q others t also_starts k also) =
+  one_refusal fault other (in_test r h named) (behind q rest t starts k also) = absurd (not_a_test q rest r starts h)
+  one_refusal fault other (behind p rest r starts h named) (in_test t k also) = absurd (not_a_test p rest t starts k)
+  one_refusal fault other (behind p rest r starts h named) (behind q others t also_starts k also) =
       let read = same_reading p q rest others (Err r) (Err t) starts also_starts h k in
       let e : r ≡ t = cc in
       let same_name : Some fault ≡ Some other = sym named ∙ ap fault_behind_test e ∙ also in cc

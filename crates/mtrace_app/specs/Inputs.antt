@@ -1,5 +1,5 @@
 -- What the bytes mean that a command takes: a test with recorded runs, or the refusal of their first bad line.
-use Rattle.std.specs.Prelude.{◌≡◌, ℕ, ◌+◌, List, length, Bool, true, false, Option, Some, None}
+use Rattle.std.specs.Prelude.{◌≡◌, ℕ, ◌+◌, List, [], length, Bool, true, false, Option, Some, None}
 use Rattle.test_lang.specs.Program.{Program}
 use Rattle.test_lang.specs.Values.{load_count}
 use Rattle.test_lang.specs.declared.text.fault.TestFault.{TestFault}
@@ -9,7 +9,8 @@ use Rattle.test_lang.specs.Text.Refusal.{IsRefused as IsRefusedTest}
 use Rattle.run_text.specs.declared.fault.RunFault.{RunFault}
 use Rattle.run_text.specs.declared.fault.RunFault.TheVariants.{BadRunLine as BadLineOfRun, WrongCount as WrongCountLine, ValueRange as ValueRangeLine, NoDone as NoDoneLine, AfterDone as AfterDoneLine, Memory as MemoryOfRuns}
 use Rattle.run_text.specs.Reader.{Reader}
-use Rattle.run_text.specs.Runs.{AreRunsOf, runs_text, IsRefused as AreRefusedRuns}
+use Rattle.run_text.specs.Items.{IsTextOf, IsRefusedText}
+use Rattle.run_text.specs.Runs.{IsLineOfRun, IsBadForRuns}
 use Rattle.command_line.specs.declared.meaning.Command.{Command}
 use Rattle.command_line.specs.declared.meaning.Command.TheVariants.{Check, Generate, Demo}
 use Rattle.command_line.specs.declared.meaning.Settings.{Settings}
@@ -47,25 +48,33 @@ fault_behind_test (NoDoneLine line) = fault_at line NoDone
 fault_behind_test (AfterDoneLine line) = fault_at line AfterDone
 fault_behind_test MemoryOfRuns = None
 
--- ---- a test and runs behind it
+-- ---- a test, and behind it a text of items, each with a line of its own, up to the line `done`
 
--- The bytes are the text of a test, and behind it stands the text of these runs.
-pub record AreRecordedRuns (bytes : List ℕ) (p : Program) (runs : List (List ℕ)) : Type 0 where
-  pub test : StartsWithTest bytes p (runs_text runs)
-  pub each : AreRunsOf (load_count p) runs
+-- The bytes are the text of a test, and behind it stands a text of these items. Which lines an item may have is told by a relation.
+pub record IsRecordedText {Item : Type 0} (IsLineOf : Program → Item → List ℕ → Type 0) (bytes : List ℕ) (p : Program) (items : List Item) : Type 0 where
+  pub rest : List ℕ
+  pub test : StartsWithTest bytes p rest
+  pub text : IsTextOf (IsLineOf p) items rest []
 
--- the text behind a test, the first line of which has this number
+-- No test stands in front, or the text of items behind it is refused. The refusal is that of the first bad line; lines are numbered through the whole input.
+pub data IsRefusedRecord {Item Fault : Type 0} (IsLineOf : Program → Item → List ℕ → Type 0) (IsBad : Program → ℕ → List ℕ → Fault → Type 0) (name : Fault → Option InputFault) (bytes : List ℕ) (fault : InputFault) : Type 0 where
+  in_test : (refusal : TestFault) → IsRefusedTest bytes refusal → fault_in_test refusal ≡ Some fault → IsRefusedRecord IsLineOf IsBad name bytes fault
+  behind : (p : Program) (rest : List ℕ) (refusal : Fault) → StartsWithTest bytes p rest → IsRefusedText (IsLineOf p) (IsBad p) (length (test_lines p) + 1) rest refusal → name refusal ≡ Some fault → IsRefusedRecord IsLineOf IsBad name bytes fault
+
+-- ---- the items are runs
+
+abbrev pub AreRecordedRuns : List ℕ → Program → List (List ℕ) → Type 0
+AreRecordedRuns = IsRecordedText (λ p. IsLineOfRun (load_count p))
+
+abbrev pub AreRefusedRuns : List ℕ → InputFault → Type 0
+AreRefusedRuns = IsRefusedRecord (λ p. IsLineOfRun (load_count p)) (λ p. IsBadForRuns (load_count p)) fault_behind_test
+
+-- the reader of the text behind a test, the first line of which has this number
 abbrev pub text_behind : Program → ℕ → List ℕ → Reader
 text_behind p line rest = record { left = rest; line = line; loads = load_count p; is_done = false }
 
--- lines are numbered through the whole input
 abbrev pub behind_test : Program → List ℕ → Reader
 behind_test p rest = text_behind p (length (test_lines p) + 1) rest
-
--- No test stands in front, or what stands behind it isn't the text of runs. The refusal is that of the first bad line.
-pub data AreRefusedRecords (bytes : List ℕ) (fault : InputFault) : Type 0 where
-  in_test : (refusal : TestFault) → IsRefusedTest bytes refusal → fault_in_test refusal ≡ Some fault → AreRefusedRecords bytes fault
-  in_runs : (p : Program) (rest : List ℕ) (refusal : RunFault) → StartsWithTest bytes p rest → AreRefusedRuns (behind_test p rest) refusal → fault_behind_test refusal ≡ Some fault → AreRefusedRecords bytes fault
 
 -- ---- by command: of those that aren't built nothing is said
 
@@ -74,7 +83,7 @@ RecordsBy Check bytes p runs = AreRecordedRuns bytes p runs
 RecordsBy command bytes p runs = ⊥
 
 abbrev pub RefusesBy : Command → List ℕ → InputFault → Type 0
-RefusesBy Check bytes fault = AreRefusedRecords bytes fault
+RefusesBy Check bytes fault = AreRefusedRuns bytes fault
 RefusesBy command bytes fault = ⊥
 
 -- By these settings the bytes mean this test and these recorded runs of it.

@@ -10,7 +10,7 @@ ghost use Rattle.signature_plan.specs.Outcomes.{outcome_of};
 ghost use Rattle.mtrace_app.specs.declared.refusal.InputFault.{InputFault};
 ghost use Rattle.mtrace_app.specs.Counted.{AreCountedWithin, FailsBehind};
 ghost use Rattle.mtrace_app.specs.Failures.{IfRefused};
-ghost use Rattle.mtrace_app.specs.Inputs.{AreRecordedRuns, AreRefusedRecords, text_behind};
+ghost use Rattle.mtrace_app.specs.Inputs.{AreRecordedRuns, AreRefusedRuns, text_behind};
 ghost use Rattle.mtrace_app.specs.Limits.{FitLimits};
 
 use crate::failure::Failure;
@@ -101,7 +101,7 @@ pub(crate) fn read_input(alloc: Global, input: &[u8]) -> Result<RunsRead, Failur
         × AreRecordedRuns input.now read.test runs
         × AreCountedWithin read.test runs read.runs read.tally) }
     ensures err { IfErr result (IfRefused (λ refusal. (fault : InputFault)
-        × (refusal ≡ Refusal.Input fault) × AreRefusedRecords input.now fault)) }
+        × (refusal ≡ Refusal.Input fault) × AreRefusedRuns input.now fault)) }
 {
     let read = Test::read(alloc, input)?;
     let plan = Plan::of(alloc, &read.test)?;

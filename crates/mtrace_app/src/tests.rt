@@ -4,7 +4,6 @@ ghost use Rattle.std.specs.Prelude.{None};
 use super::*;
 use mt_base::{MemSink, MemSource, OpenGate, Source, Take};
 use std::alloc::{AllocError, Global};
-use std::process::Abort;
 use std::test::Fail;
 use std::thread::Threads;
 
@@ -133,23 +132,23 @@ fn make(rt: &(impl Threads + Sync), alloc: Global, call: &Call<'_>) -> Result<Ma
     })
 }
 
-/// Makes a call, and compares all that it leaves.
-fn check(
-    rt: &(impl Threads + Abort + Sync),
+/// Whether a call leaves just this. With a status that comes of an input all of the source was read.
+fn leaves(
+    rt: &(impl Threads + Sync),
     alloc: Global,
     call: &Call<'_>,
     status: Status,
     output: &str,
     line: &str,
-) -> Result<(), Fail> {
+) -> Result<bool, AllocError> {
     let made = make(rt, alloc, call)?;
-    let is_read = !matches!(status, Status::Words | Status::NotBuilt | Status::ReadFault);
-    let is_same = made.status == status
-        && made.output.as_slice() == output.as_bytes()
-        && made.errs.as_slice() == line.as_bytes()
-        && (made.is_read || !is_read);
-    assert!(rt; is_same, "{0} {1}", call.words, call.input);
-    Ok(())
+    let may_leave = matches!(status, Status::Words | Status::NotBuilt | Status::ReadFault);
+    Ok(
+        made.status == status
+            && made.output.as_slice() == output.as_bytes()
+            && made.errs.as_slice() == line.as_bytes()
+            && (made.is_read || may_leave),
+    )
 }
 
 /// The report on so many runs with these lines of outcomes, and so many signatures, ok and not, and outcomes outside. Each signature is a chunk.
@@ -362,12 +361,13 @@ const ROWS: [Row<'static>; 19] = [
     },
 ];
 
-fn check_row(
-    rt: &(impl Threads + Abort + Sync),
+/// Whether a row holds under a model: with free sources and sinks, and with one byte for each take and three for each put.
+fn holds_under(
+    rt: &(impl Threads + Sync),
     alloc: Global,
     row: &Row<'_>,
     model: &str,
-) -> Result<(), Fail> {
+) -> Result<bool, AllocError> {
     let words = match model {
         "sc" => "check --chunk 1",
         "tso" => "check --chunk=1 --model=tso",
@@ -379,180 +379,243 @@ fn check_row(
     } else {
         Status::Found
     };
-    let input = format!(in alloc; "{0}{1}", row.test, row.runs)?;
+    let input = joined(alloc, row.test, row.runs, 1, "")?;
     let output = report(alloc, model, row.count, row.lines, row.sums)?;
     let call = Call {
         words,
         input: input.as_str(),
         ..CHECK
     };
-    check(rt, alloc, &call, status, output.as_str(), "")?;
-    // One byte for each take, and three for each put.
     let slow = Call {
         takes: Manner { most: 1, ..FREE },
         puts: Manner { most: 3, ..FREE },
         ..call
     };
-    check(rt, alloc, &slow, status, output.as_str(), "")
+    Ok(
+        leaves(rt, alloc, &call, status, output.as_str(), "")?
+            && leaves(rt, alloc, &slow, status, output.as_str(), "")?,
+    )
+}
+
+/// The runs of the first row that doesn't hold, if there is one.
+fn wrong_row(
+    rt: &(impl Threads + Sync),
+    alloc: Global,
+) -> Result<Option<&'static str>, AllocError> {
+    for row in &ROWS {
+        for model in row.models {
+            if !holds_under(rt, alloc, row, *model)? {
+                return Ok(Some(row.runs));
+            }
+        }
+    }
+    Ok(None)
 }
 
 #[test]
 fn reports_of_runs(rt: HostRuntime) -> Result<(), Fail> {
-    for row in &ROWS {
-        for model in row.models {
-            check_row(&rt, rt.alloc(), row, *model)?;
-        }
-    }
+    assert_eq!(rt; wrong_row(&rt, rt.alloc())?, None);
     Ok(())
 }
 
-/// A text many times over, and a text behind it.
-fn repeated(alloc: Global, text: &str, times: u32, end: &str) -> Result<String, AllocError> {
-    let mut all = String::new(alloc);
+/// A text, a piece behind it so many times, and an end.
+fn joined(
+    alloc: Global,
+    head: &str,
+    piece: &str,
+    times: u32,
+    end: &str,
+) -> Result<String, AllocError> {
+    let mut all = String::from_str(alloc, head)?;
     for _ in 0..times {
-        all.push_str(text)?;
+        all.push_str(piece)?;
     }
     all.push_str(end)?;
     Ok(all)
 }
 
-#[test]
-fn signatures_of_several_words(rt: HostRuntime) -> Result<(), Fail> {
-    let alloc = rt.alloc();
-    let test = repeated(alloc, "ld 0\n", 65, "end\n")?;
-    let run = repeated(alloc, " 1", 65, "\ndone\n")?;
-    let input = format!(in alloc; "mtest 1\nwords 1\nthread\nst 0\nthread\n{test}run{run}")?;
-    let lines = "sig ffffffffffffffff.0000000000000001 count 1 ok\n";
+/// Whether an input of one run has a report with these lines, and no cycle.
+fn is_clean_run(
+    rt: &(impl Threads + Sync),
+    alloc: Global,
+    input: &str,
+    lines: &str,
+) -> Result<bool, AllocError> {
     let output = report(alloc, "sc", 1, lines, [1, 0, 0])?;
-    let call = Call {
-        input: input.as_str(),
-        ..CHECK
-    };
-    check(&rt, alloc, &call, Status::Clean, output.as_str(), "")
+    let call = Call { input, ..CHECK };
+    leaves(rt, alloc, &call, Status::Clean, output.as_str(), "")
+}
+
+/// One store against 65 loads, all of which give it.
+fn several_words(rt: &(impl Threads + Sync), alloc: Global) -> Result<bool, AllocError> {
+    let head = "mtest 1\nwords 1\nthread\nst 0\nthread\n";
+    let test = joined(alloc, head, "ld 0\n", 65, "end\nrun")?;
+    let input = joined(alloc, test.as_str(), " 1", 65, "\ndone\n")?;
+    let lines = "sig ffffffffffffffff.0000000000000001 count 1 ok\n";
+    is_clean_run(rt, alloc, input.as_str(), lines)
+}
+
+/// One thread of stores and 15 of loads of one word. Each load gives the initial value, which is its first candidate of 129: nine loads fill a
+/// word, so a thread has 15 words.
+fn sixteen_threads(rt: &(impl Threads + Sync), alloc: Global) -> Result<bool, AllocError> {
+    let stores = joined(alloc, "mtest 1\nwords 1\nthread\n", "st 0\n", 128, "")?;
+    let thread = joined(alloc, "thread\n", "ld 0\n", 128, "")?;
+    let test = joined(alloc, stores.as_str(), thread.as_str(), 15, "end\nrun")?;
+    let input = joined(alloc, test.as_str(), " 0", 1920, "\ndone\n")?;
+    let first = "sig 0000000000000000";
+    let lines = joined(alloc, first, ".0000000000000000", 224, " count 1 ok\n")?;
+    is_clean_run(rt, alloc, input.as_str(), lines.as_str())
 }
 
 #[test]
-fn sixteen_threads_of_128_operations(rt: HostRuntime) -> Result<(), Fail> {
-    // One thread of stores and 15 of loads of one word. Each load gives the initial value, which is its first candidate.
-    let alloc = rt.alloc();
-    let stores = repeated(alloc, "st 0\n", 128, "")?;
-    let loads = repeated(alloc, "ld 0\n", 128, "")?;
-    let thread = format!(in alloc; "thread\n{loads}")?;
-    let threads = repeated(alloc, thread.as_str(), 15, "end\n")?;
-    let run = repeated(alloc, " 0", 1920, "\ndone\n")?;
-    let input = format!(in alloc; "mtest 1\nwords 1\nthread\n{stores}{threads}run{run}")?;
-    // 129 candidates: nine loads fill a word, so a thread has 15 words.
-    let words = repeated(alloc, ".0000000000000000", 224, "")?;
-    let lines = format!(in alloc; "sig 0000000000000000{words} count 1 ok\n")?;
-    let output = report(alloc, "sc", 1, lines.as_str(), [1, 0, 0])?;
-    let call = Call {
-        input: input.as_str(),
-        ..CHECK
-    };
-    check(&rt, alloc, &call, Status::Clean, output.as_str(), "")
+fn signatures_of_many_words(rt: HostRuntime) -> Result<(), Fail> {
+    assert!(rt; several_words(&rt, rt.alloc())?);
+    assert!(rt; sixteen_threads(&rt, rt.alloc())?);
+    Ok(())
 }
 
-/// Checks that an input has no output, and ends with this status and this line.
-fn check_refused(
-    rt: &(impl Threads + Abort + Sync),
+/// Whether an input has no output, and ends with this status and this line.
+fn is_refused(
+    rt: &(impl Threads + Sync),
     alloc: Global,
     input: &str,
     status: Status,
-    line: &str,
-) -> Result<(), Fail> {
-    let line = format!(in alloc; "mtrace: {line}\n")?;
+    reason: &str,
+) -> Result<bool, AllocError> {
+    let line = joined(alloc, "mtrace: ", reason, 1, "\n")?;
     let call = Call { input, ..CHECK };
-    check(rt, alloc, &call, status, "", line.as_str())
+    leaves(rt, alloc, &call, status, "", line.as_str())
+}
+
+const ONE_STORE: &str = "mtest 1\nwords 1\nthread\nst 0\nend\n";
+
+fn a_million_runs_fit(rt: &(impl Threads + Sync), alloc: Global) -> Result<bool, AllocError> {
+    let input = joined(alloc, ONE_STORE, "run\n", 1_000_000, "done\n")?;
+    let lines = "sig none count 1000000 ok\n";
+    let output = report(alloc, "sc", 1_000_000, lines, [1, 0, 0])?;
+    let call = Call {
+        input: input.as_str(),
+        ..CHECK
+    };
+    leaves(rt, alloc, &call, Status::Clean, output.as_str(), "")
+}
+
+/// A run more, which passes the limit; a bad line behind it is still refused.
+fn one_more_passes(rt: &(impl Threads + Sync), alloc: Global) -> Result<bool, AllocError> {
+    let mut input = joined(alloc, ONE_STORE, "run\n", 1_000_001, "done\n")?;
+    let reason = "too large: runs 1000001";
+    let passes = is_refused(rt, alloc, input.as_str(), Status::TooLarge, reason)?;
+    input.push_str("x")?;
+    let reason = "input line 1000008: AfterDone";
+    Ok(passes && is_refused(rt, alloc, input.as_str(), Status::Input, reason)?)
+}
+
+fn values_pass(rt: &(impl Threads + Sync), alloc: Global) -> Result<bool, AllocError> {
+    let head = "mtest 1\nwords 1\nthread\n";
+    let test = joined(alloc, head, "ld 0\n", 2048, "end\n")?;
+    let run = joined(alloc, "run", " 0", 2048, "\n")?;
+    let input = joined(alloc, test.as_str(), run.as_str(), 32_769, "done\n")?;
+    let reason = "too large: values 67110912";
+    is_refused(rt, alloc, input.as_str(), Status::TooLarge, reason)
 }
 
 #[test]
-fn limits_on_runs_and_values(rt: HostRuntime) -> Result<(), Fail> {
-    let alloc = rt.alloc();
-    let test = "mtest 1\nwords 1\nthread\nst 0\nend\n";
-    let runs = repeated(alloc, "run\n", 1_000_000, "done\n")?;
-    let million = format!(in alloc; "{test}{runs}")?;
-    let output = report(
-        alloc,
-        "sc",
-        1_000_000,
-        "sig none count 1000000 ok\n",
-        [1, 0, 0],
-    )?;
-    let call = Call {
-        input: million.as_str(),
-        ..CHECK
-    };
-    check(&rt, alloc, &call, Status::Clean, output.as_str(), "")?;
-    let more = format!(in alloc; "{test}run\n{runs}")?;
-    let large = Status::TooLarge;
-    check_refused(&rt, alloc, more.as_str(), large, "too large: runs 1000001")?;
-    // A bad line behind the last run that fits is still refused.
-    let bad = format!(in alloc; "{more}x")?;
-    let reason = "input line 1000008: AfterDone";
-    check_refused(&rt, alloc, bad.as_str(), Status::Input, reason)?;
-    let loads = repeated(alloc, "ld 0\n", 2048, "end\n")?;
-    let run = repeated(alloc, " 0", 2048, "\n")?;
-    let run = format!(in alloc; "run{run}")?;
-    let runs = repeated(alloc, run.as_str(), 32769, "done\n")?;
-    let values = format!(in alloc; "mtest 1\nwords 1\nthread\n{loads}{runs}")?;
-    check_refused(
-        &rt,
-        alloc,
-        values.as_str(),
-        large,
-        "too large: values 67110912",
-    )
+fn limits_on_runs(rt: HostRuntime) -> Result<(), Fail> {
+    assert!(rt; a_million_runs_fit(&rt, rt.alloc())?);
+    assert!(rt; one_more_passes(&rt, rt.alloc())?);
+    Ok(())
+}
+
+#[test]
+fn limit_on_values(rt: HostRuntime) -> Result<(), Fail> {
+    assert!(rt; values_pass(&rt, rt.alloc())?);
+    Ok(())
 }
 
 const REFUSED_TESTS: [(&str, &str); 8] = [
-    ("", "1: NoEnd"),
-    ("mtest 2\n", "1: BadHead"),
-    ("mtest 1\r\n", "1: BadHead"),
-    ("mtest 1\nwords 257\n", "2: BadWords"),
-    ("mtest 1\nwords 1\nst 0\n", "3: NoThread"),
-    ("mtest 1\nwords 2\nthread\nst 0", "4: NoEnd"),
-    ("mtest 1\nwords 1\nthread\nld 00\n", "4: BadLine"),
+    ("", "input line 1: NoEnd"),
+    ("mtest 2\n", "input line 1: BadHead"),
+    ("mtest 1\r\n", "input line 1: BadHead"),
+    ("mtest 1\nwords 257\n", "input line 2: BadWords"),
+    ("mtest 1\nwords 1\nst 0\n", "input line 3: NoThread"),
+    ("mtest 1\nwords 2\nthread\nst 0", "input line 4: NoEnd"),
+    ("mtest 1\nwords 1\nthread\nld 00\n", "input line 4: BadLine"),
     (
         "mtest 1\nwords 2\nthread\nst 0\nld 2\nend\n",
-        "5: WordRange",
+        "input line 5: WordRange",
+    ),
+];
+
+/// A piece so many times behind the head of a test.
+const LONG_TESTS: [(&str, &str, u32, &str); 2] = [
+    (
+        "mtest 1\nwords 1\n",
+        "thread\n",
+        17,
+        "input line 19: TooManyThreads",
+    ),
+    (
+        "mtest 1\nwords 1\nthread\n",
+        "fence\n",
+        2049,
+        "input line 2052: TooManyOps",
     ),
 ];
 
 /// Behind store buffering.
 const REFUSED_RUNS: [(&str, &str); 10] = [
-    ("", "10: NoDone"),
-    ("run 0\ndone\n", "10: WrongCount want 2 got 1"),
-    ("run 0 0 0\ndone\n", "10: WrongCount want 2 got 3"),
-    ("run 0 4294967296\ndone\n", "10: ValueRange"),
-    ("run 0 0\n", "11: NoDone"),
-    ("run 0 0\ndone\n\n", "12: AfterDone"),
-    ("run 0 0\nrun  0 0\ndone\n", "11: BadRunLine"),
-    ("run 0 0\nrun 0 01\ndone\n", "11: BadRunLine"),
-    ("run 0 0\r\ndone\n", "10: BadRunLine"),
-    ("run 0 0\nrun 0 0\ndone", "12: NoDone"),
+    ("", "input line 10: NoDone"),
+    ("run 0\ndone\n", "input line 10: WrongCount want 2 got 1"),
+    (
+        "run 0 0 0\ndone\n",
+        "input line 10: WrongCount want 2 got 3",
+    ),
+    ("run 0 4294967296\ndone\n", "input line 10: ValueRange"),
+    ("run 0 0\n", "input line 11: NoDone"),
+    ("run 0 0\ndone\n\n", "input line 12: AfterDone"),
+    ("run 0 0\nrun  0 0\ndone\n", "input line 11: BadRunLine"),
+    ("run 0 0\nrun 0 01\ndone\n", "input line 11: BadRunLine"),
+    ("run 0 0\r\ndone\n", "input line 10: BadRunLine"),
+    ("run 0 0\nrun 0 0\ndone", "input line 12: NoDone"),
 ];
+
+/// The reason of the first input of the tables that is answered otherwise, if there is one.
+fn passed_input(
+    rt: &(impl Threads + Sync),
+    alloc: Global,
+) -> Result<Option<&'static str>, AllocError> {
+    for (input, reason) in &REFUSED_TESTS {
+        if !is_refused(rt, alloc, *input, Status::Input, *reason)? {
+            return Ok(Some(*reason));
+        }
+    }
+    for (head, piece, times, reason) in &LONG_TESTS {
+        let input = joined(alloc, *head, *piece, *times, "")?;
+        if !is_refused(rt, alloc, input.as_str(), Status::Input, *reason)? {
+            return Ok(Some(*reason));
+        }
+    }
+    for (runs, reason) in &REFUSED_RUNS {
+        let input = joined(alloc, STORE_BUFFERING, *runs, 1, "")?;
+        if !is_refused(rt, alloc, input.as_str(), Status::Input, *reason)? {
+            return Ok(Some(*reason));
+        }
+    }
+    Ok(None)
+}
 
 #[test]
 fn refused_inputs(rt: HostRuntime) -> Result<(), Fail> {
-    let alloc = rt.alloc();
-    let threads = repeated(alloc, "thread\n", 17, "")?;
-    let threads = format!(in alloc; "mtest 1\nwords 1\n{threads}")?;
-    let operations = repeated(alloc, "fence\n", 2049, "")?;
-    let operations = format!(in alloc; "mtest 1\nwords 1\nthread\n{operations}")?;
-    let many = [
-        (threads.as_str(), "19: TooManyThreads"),
-        (operations.as_str(), "2052: TooManyOps"),
-    ];
-    for (input, reason) in REFUSED_TESTS.iter().chain(many.iter()) {
-        let line = format!(in alloc; "input line {reason}")?;
-        check_refused(&rt, alloc, *input, Status::Input, line.as_str())?;
-    }
-    for (runs, reason) in &REFUSED_RUNS {
-        let input = format!(in alloc; "{STORE_BUFFERING}{runs}")?;
-        let line = format!(in alloc; "input line {reason}")?;
-        check_refused(&rt, alloc, input.as_str(), Status::Input, line.as_str())?;
-    }
+    assert_eq!(rt; passed_input(&rt, rt.alloc())?, None);
     Ok(())
+}
+
+/// The report on store buffering where both loads give 0 in so many runs.
+fn both_zero(alloc: Global, runs: u32) -> Result<String, AllocError> {
+    let lines = format!(in alloc;
+        "sig 0000000000000000.0000000000000000 count {runs} cycle 0 1 2 3\n"
+    )?;
+    report(alloc, "sc", runs, lines.as_str(), [0, 1, 0])
 }
 
 const WORDS: [(&str, Status, &str); 8] = [
@@ -566,193 +629,279 @@ const WORDS: [(&str, Status, &str); 8] = [
     ("generate --seed 1", Status::NotBuilt, "mtrace: not built\n"),
 ];
 
-#[test]
-fn words_and_what_is_not_built(rt: HostRuntime) -> Result<(), Fail> {
-    let alloc = rt.alloc();
-    let input = format!(in alloc; "{STORE_BUFFERING}run 0 0\ndone\n")?;
+const ZEROS: &str =
+    "mtest 1\nwords 2\nthread\nst 0\nld 1\nthread\nst 1\nld 0\nend\nrun 0 0\ndone\n";
+
+/// The first words of the table that are answered otherwise, or of which something is taken, if there are some.
+fn passed_words(
+    rt: &(impl Threads + Sync),
+    alloc: Global,
+) -> Result<Option<&'static str>, AllocError> {
     for (words, status, line) in &WORDS {
         let call = Call {
             words: *words,
-            input: input.as_str(),
+            input: ZEROS,
             ..CHECK
         };
-        check(&rt, alloc, &call, *status, "", *line)?;
-        // Nothing is taken.
-        assert!(rt; !make(&rt, alloc, &call)?.is_read);
+        if !leaves(rt, alloc, &call, *status, "", *line)? || make(rt, alloc, &call)?.is_read {
+            return Ok(Some(*words));
+        }
     }
-    // Several signatures in a chunk aren't built, and one alone is.
-    let several = format!(in alloc; "{STORE_BUFFERING}run 0 0\nrun 0 1\ndone\n")?;
+    Ok(None)
+}
+
+/// Several signatures in a chunk aren't built, and one alone is.
+fn chunks_of_one(rt: &(impl Threads + Sync), alloc: Global) -> Result<bool, AllocError> {
+    let several = joined(alloc, STORE_BUFFERING, "run 0 0\nrun 0 1\ndone\n", 1, "")?;
     let call = Call {
         words: "check",
         input: several.as_str(),
         ..CHECK
     };
     let line = "mtrace: not built\n";
-    check(&rt, alloc, &call, Status::NotBuilt, "", line)?;
-    assert!(rt; make(&rt, alloc, &call)?.is_read);
-    let lines = "sig 0000000000000000.0000000000000000 count 1 cycle 0 1 2 3\n";
-    let output = report(alloc, "sc", 1, lines, [0, 1, 0])?;
+    let refuses = leaves(rt, alloc, &call, Status::NotBuilt, "", line)?;
+    let is_read = make(rt, alloc, &call)?.is_read;
+    let output = both_zero(alloc, 1)?;
     let call = Call {
         words: "check",
-        input: input.as_str(),
+        input: ZEROS,
         ..CHECK
     };
-    check(&rt, alloc, &call, Status::Found, output.as_str(), "")
+    Ok(refuses && is_read && leaves(rt, alloc, &call, Status::Found, output.as_str(), "")?)
+}
+
+#[test]
+fn words_and_what_is_not_built(rt: HostRuntime) -> Result<(), Fail> {
+    assert_eq!(rt; passed_words(&rt, rt.alloc())?, None);
+    assert!(rt; chunks_of_one(&rt, rt.alloc())?);
+    Ok(())
+}
+
+/// How many bytes a take gives at most, and which takes fail. Seventy thousand bytes are taken by blocks of 4,096: the eighteenth take gives the last.
+const FAILING_TAKES: [(u32, usize, &[u32]); 6] = [
+    (1, 1, &[5]),
+    // The take that would tell the end fails.
+    (1, 65_536, &[1]),
+    (8743, 4096, &[0]),
+    (8743, 4096, &[8]),
+    (8743, 4096, &[17]),
+    (8743, 4096, &[18]),
+];
+
+/// The status, and whether the line and the output are those of a fault of reading, for so many runs.
+fn takes_fail(
+    rt: &(impl Threads + Sync),
+    alloc: Global,
+    runs: u32,
+    most: usize,
+    fails: &[u32],
+) -> Result<bool, AllocError> {
+    let input = joined(alloc, STORE_BUFFERING, "run 0 0\n", runs, "done\n")?;
+    let takes = Manner {
+        room: 0,
+        most,
+        fails,
+    };
+    let call = Call {
+        input: input.as_str(),
+        takes,
+        ..CHECK
+    };
+    let line = "mtrace: read fault\n";
+    leaves(rt, alloc, &call, Status::ReadFault, "", line)
+}
+
+fn all_takes_fail(rt: &(impl Threads + Sync), alloc: Global) -> Result<bool, AllocError> {
+    for (runs, most, fails) in &FAILING_TAKES {
+        if !takes_fail(rt, alloc, *runs, *most, *fails)? {
+            return Ok(false);
+        }
+    }
+    Ok(true)
+}
+
+/// A take that would come behind the end fails nothing.
+fn takes_behind_the_end(rt: &(impl Threads + Sync), alloc: Global) -> Result<bool, AllocError> {
+    let input = joined(alloc, STORE_BUFFERING, "run 0 0\n", 8743, "done\n")?;
+    let output = both_zero(alloc, 8743)?;
+    let takes = Manner {
+        room: 0,
+        most: 4096,
+        fails: &[19],
+    };
+    let call = Call {
+        input: input.as_str(),
+        takes,
+        ..CHECK
+    };
+    leaves(rt, alloc, &call, Status::Found, output.as_str(), "")
 }
 
 #[test]
 fn faults_of_reading(rt: HostRuntime) -> Result<(), Fail> {
-    let alloc = rt.alloc();
-    let input = format!(in alloc; "{STORE_BUFFERING}run 0 0\ndone\n")?;
-    // Seventy thousand bytes, which are taken by blocks of 4,096: the eighteenth take gives the last of them.
-    let runs = repeated(alloc, "run 0 0\n", 8743, "done\n")?;
-    let long = format!(in alloc; "{STORE_BUFFERING}{runs}")?;
-    let rows: [(&str, usize, &[u32]); 6] = [
-        (input.as_str(), 1, &[5]),
-        // The take that would tell the end fails.
-        (input.as_str(), 65_536, &[1]),
-        (long.as_str(), 4096, &[0]),
-        (long.as_str(), 4096, &[8]),
-        (long.as_str(), 4096, &[17]),
-        (long.as_str(), 4096, &[18]),
-    ];
-    for (input, most, fails) in rows {
-        let call = Call {
-            input,
-            takes: Manner {
-                room: 0,
-                most,
-                fails,
-            },
-            ..CHECK
-        };
-        let line = "mtrace: read fault\n";
-        check(&rt, alloc, &call, Status::ReadFault, "", line)?;
-    }
-    // A take that would come behind the end fails nothing.
-    let lines = "sig 0000000000000000.0000000000000000 count 8743 cycle 0 1 2 3\n";
-    let output = report(alloc, "sc", 8743, lines, [0, 1, 0])?;
+    assert!(rt; all_takes_fail(&rt, rt.alloc())?);
+    assert!(rt; takes_behind_the_end(&rt, rt.alloc())?);
+    Ok(())
+}
+
+/// The room of a sink, how many bytes a put writes at most, which puts fail, and how many of the 172 bytes of the report are then written.
+const FAILING_PUTS: [(usize, usize, &[u32], usize); 5] = [
+    (10_000, 8, &[1], 8),
+    (10_000, 8, &[0], 0),
+    // A room that is too small.
+    (20, 20, &[], 20),
+    // The last put fails.
+    (10_000, 8, &[21], 168),
+    (171, 10_000, &[], 171),
+];
+
+fn puts_fail(
+    rt: &(impl Threads + Sync),
+    alloc: Global,
+    puts: Manner<'_>,
+    written: usize,
+) -> Result<bool, AllocError> {
+    let output = both_zero(alloc, 1)?;
     let call = Call {
-        input: long.as_str(),
-        takes: Manner {
-            room: 0,
-            most: 4096,
-            fails: &[19],
-        },
+        input: ZEROS,
+        puts,
         ..CHECK
     };
-    check(&rt, alloc, &call, Status::Found, output.as_str(), "")
+    let made = make(rt, alloc, &call)?;
+    Ok(
+        made.status == Status::WriteFault
+            && made.errs.as_slice() == b"mtrace: write fault\n".as_slice()
+            && made.output.len() == written
+            && output.as_bytes().starts_with(&made.output),
+    )
+}
+
+fn all_puts_fail(rt: &(impl Threads + Sync), alloc: Global) -> Result<bool, AllocError> {
+    for (room, most, fails, written) in &FAILING_PUTS {
+        let puts = Manner {
+            room: *room,
+            most: *most,
+            fails: *fails,
+        };
+        if !puts_fail(rt, alloc, puts, *written)? {
+            return Ok(false);
+        }
+    }
+    Ok(true)
+}
+
+/// A put that would come behind the last fails nothing.
+fn puts_behind_the_last(rt: &(impl Threads + Sync), alloc: Global) -> Result<bool, AllocError> {
+    let output = both_zero(alloc, 1)?;
+    let puts = Manner {
+        room: 172,
+        most: 8,
+        fails: &[22],
+    };
+    let call = Call {
+        input: ZEROS,
+        puts,
+        ..CHECK
+    };
+    leaves(rt, alloc, &call, Status::Found, output.as_str(), "")
 }
 
 #[test]
 fn faults_of_writing(rt: HostRuntime) -> Result<(), Fail> {
-    let alloc = rt.alloc();
-    let input = format!(in alloc; "{STORE_BUFFERING}run 0 0\ndone\n")?;
-    let lines = "sig 0000000000000000.0000000000000000 count 1 cycle 0 1 2 3\n";
-    let output = report(alloc, "sc", 1, lines, [0, 1, 0])?;
-    // The report has 173 bytes.
-    let rows: [(usize, usize, &[u32], usize); 5] = [
-        // Eight bytes for each put, and the second fails.
-        (10_000, 8, &[1], 8),
-        (10_000, 8, &[0], 0),
-        // A room that is too small.
-        (20, 20, &[], 20),
-        // The last put fails.
-        (10_000, 8, &[21], 168),
-        (172, 10_000, &[], 172),
-    ];
-    for (room, most, fails, written) in rows {
+    assert!(rt; all_puts_fail(&rt, rt.alloc())?);
+    assert!(rt; puts_behind_the_last(&rt, rt.alloc())?);
+    Ok(())
+}
+
+const ONE_VALUE: &str =
+    "mtest 1\nwords 2\nthread\nst 0\nld 1\nthread\nst 1\nld 0\nend\nrun 0\ndone\n";
+
+/// The words, how many bytes a put to the errors writes at most, which fail, the status, and what the errors get.
+const FAILING_ERRORS: [(&str, usize, &[u32], Status, &str); 2] = [
+    ("check", 4, &[2], Status::Input, "mtrace: "),
+    ("", 100, &[0], Status::Words, ""),
+];
+
+fn errors_fail(rt: &(impl Threads + Sync), alloc: Global) -> Result<bool, AllocError> {
+    for (words, most, fails, status, line) in &FAILING_ERRORS {
+        let tells = Manner {
+            room: 100,
+            most: *most,
+            fails: *fails,
+        };
         let call = Call {
-            input: input.as_str(),
-            puts: Manner { room, most, fails },
+            words: *words,
+            input: ONE_VALUE,
+            tells,
             ..CHECK
         };
-        let made = make(&rt, alloc, &call)?;
-        assert!(rt; made.status == Status::WriteFault);
-        assert!(rt; made.errs.as_slice() == b"mtrace: write fault\n".as_slice());
-        assert!(rt; made.output.len() == written);
-        assert!(rt; output.as_bytes().starts_with(&made.output));
+        if !leaves(rt, alloc, &call, *status, "", *line)? {
+            return Ok(false);
+        }
     }
-    // A put that would come behind the last fails nothing.
-    let call = Call {
-        input: input.as_str(),
-        puts: Manner {
-            room: 173,
-            most: 8,
-            fails: &[22],
-        },
-        ..CHECK
-    };
-    check(&rt, alloc, &call, Status::Found, output.as_str(), "")
+    Ok(true)
 }
 
 #[test]
 fn faults_of_the_errors_change_no_status(rt: HostRuntime) -> Result<(), Fail> {
-    let alloc = rt.alloc();
-    let input = format!(in alloc; "{STORE_BUFFERING}run 0\ndone\n")?;
-    let rows: [(&str, usize, &[u32], Status, &str); 2] = [
-        ("check", 4, &[2], Status::Input, "mtrace: "),
-        ("", 100, &[0], Status::Words, ""),
-    ];
-    for (words, most, fails, status, line) in rows {
-        let call = Call {
-            words,
-            input: input.as_str(),
-            tells: Manner {
-                room: 100,
-                most,
-                fails,
-            },
-            ..CHECK
-        };
-        check(&rt, alloc, &call, status, "", line)?;
-    }
+    assert!(rt; errors_fail(&rt, rt.alloc())?);
     Ok(())
 }
 
-#[test]
-fn each_refusal_has_its_line(rt: HostRuntime) -> Result<(), Fail> {
-    let alloc = rt.alloc();
-    let reason = Reason::WrongCount { want: 2, got: 10 };
-    let fault = InputFault { line: 7, reason };
-    let rows = [
-        (Refusal::Words, 2, "mtrace: words\n"),
-        (
-            Refusal::Input(fault),
-            3,
-            "mtrace: input line 7: WrongCount want 2 got 10\n",
-        ),
-        (Refusal::ReadFault, 4, "mtrace: read fault\n"),
-        (
-            Refusal::TooLarge(Size::Bytes),
-            7,
-            "mtrace: too large: bytes\n",
-        ),
-        (
-            Refusal::TooLarge(Size::Runs(9)),
-            7,
-            "mtrace: too large: runs 9\n",
-        ),
-        (
-            Refusal::TooLarge(Size::Values(9)),
-            7,
-            "mtrace: too large: values 9\n",
-        ),
-        (Refusal::NotBuilt, 8, "mtrace: not built\n"),
-    ];
-    for (refusal, number, text) in rows {
+const REFUSALS: [(Refusal, u8, &str); 7] = [
+    (Refusal::Words, 2, "mtrace: words\n"),
+    (
+        Refusal::Input(InputFault {
+            line: 7,
+            reason: Reason::WrongCount { want: 2, got: 10 },
+        }),
+        3,
+        "mtrace: input line 7: WrongCount want 2 got 10\n",
+    ),
+    (Refusal::ReadFault, 4, "mtrace: read fault\n"),
+    (
+        Refusal::TooLarge(Size::Bytes),
+        7,
+        "mtrace: too large: bytes\n",
+    ),
+    (
+        Refusal::TooLarge(Size::Runs(9)),
+        7,
+        "mtrace: too large: runs 9\n",
+    ),
+    (
+        Refusal::TooLarge(Size::Values(9)),
+        7,
+        "mtrace: too large: values 9\n",
+    ),
+    (Refusal::NotBuilt, 8, "mtrace: not built\n"),
+];
+
+const NUMBERS: [(Status, u8); 4] = [
+    (Status::Clean, 0),
+    (Status::Found, 1),
+    (Status::WriteFault, 5),
+    (Status::Memory, 6),
+];
+
+fn refusals_are_told(alloc: Global) -> Result<bool, AllocError> {
+    for (refusal, number, text) in &REFUSALS {
         let line = refusal.line(alloc)?;
-        assert!(rt; line.as_bytes() == text.as_bytes());
-        assert!(rt; refusal.status().exit_number() == number);
+        if line.as_bytes() != text.as_bytes() || refusal.status().exit_number() != *number {
+            return Ok(false);
+        }
     }
-    for (status, number) in [
-        (Status::Clean, 0),
-        (Status::Found, 1),
-        (Status::WriteFault, 5),
-        (Status::Memory, 6),
-    ] {
-        assert!(rt; status.exit_number() == number);
+    for (status, number) in &NUMBERS {
+        if status.exit_number() != *number {
+            return Ok(false);
+        }
     }
+    Ok(true)
+}
+
+#[test]
+fn each_refusal_has_its_line_and_each_status_its_number(rt: HostRuntime) -> Result<(), Fail> {
+    assert!(rt; refusals_are_told(rt.alloc())?);
     Ok(())
 }
 
@@ -771,14 +920,16 @@ impl Source for LineFeeds {
     }
 }
 
-#[test]
-fn an_input_without_end_is_too_large(rt: HostRuntime) -> Result<(), Fail> {
-    let alloc = rt.alloc();
+fn never_ends(rt: &(impl Threads + Sync), alloc: Global) -> Result<bool, AllocError> {
     let words = words_of(alloc, "check")?;
     let mut sink = sink_of(alloc, &FREE)?;
     let mut errs = sink_of(alloc, &FREE)?;
-    let status = status_of(&rt, alloc, &words, &mut LineFeeds, &mut sink, &mut errs);
-    assert!(rt; status == Status::TooLarge);
-    assert!(rt; errs.held_bytes() == b"mtrace: too large: bytes\n".as_slice());
+    let status = status_of(rt, alloc, &words, &mut LineFeeds, &mut sink, &mut errs);
+    Ok(status == Status::TooLarge && errs.held_bytes() == b"mtrace: too large: bytes\n".as_slice())
+}
+
+#[test]
+fn an_input_without_end_is_too_large(rt: HostRuntime) -> Result<(), Fail> {
+    assert!(rt; never_ends(&rt, rt.alloc())?);
     Ok(())
 }
