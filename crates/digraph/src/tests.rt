@@ -1,4 +1,4 @@
-//! Lists, graphs and sets of edges as a caller uses them.
+//! Lists, graphs and sets of edges as a caller uses them. What makes the calls has no clauses, so that the tests compare plain values.
 ghost use Rattle.std.specs.Prelude.{◌≡◌, ◌+◌, ◌%◌, ◌<◌, [], ◌∷◌, length, IfOk};
 
 use crate::{Edges, Graph, NEAR, Nodes, Pairs, Steps};
@@ -7,35 +7,132 @@ use std::marker::Brand;
 use std::sync::ledger::{Blank, Ledger};
 use std::test::Fail;
 
+/// A list with this room, which had the nodes of `before` until it was emptied.
+fn nodes_of(alloc: Global, room: u32, before: &[u32], list: &[u32]) -> Result<Nodes, AllocError> {
+    let mut nodes = Nodes::with_room(alloc, room)?;
+    for node in before {
+        if nodes.list().len() < room as usize {
+            nodes.push(*node);
+        }
+    }
+    nodes.clear();
+    for node in list {
+        if nodes.list().len() < room as usize {
+            nodes.push(*node);
+        }
+    }
+    Ok(nodes)
+}
+
+/// A list with this room, which had the edges of `before` until it was emptied.
+fn edges_of(
+    alloc: Global,
+    room: u32,
+    before: &[(u32, u32)],
+    list: &[(u32, u32)],
+) -> Result<Edges, AllocError> {
+    let mut edges = Edges::with_room(alloc, room)?;
+    for (from, to) in before {
+        if edges.list().len() < room as usize {
+            edges.push(*from, *to);
+        }
+    }
+    edges.clear();
+    for (from, to) in list {
+        if edges.list().len() < room as usize {
+            edges.push(*from, *to);
+        }
+    }
+    Ok(edges)
+}
+
 #[test]
 fn lists_hold_what_was_pushed(rt: HostRuntime) -> Result<(), Fail> {
-    let mut nodes = Nodes::with_room(rt.alloc(), 3)?;
-    nodes.push(7);
-    nodes.push(2);
-    assert_eq!(rt; nodes.list(), [7, 2].as_slice());
-    let mut others = Nodes::with_room(rt.alloc(), 2)?;
-    others.push(7);
-    assert!(rt; nodes != others);
-    others.push(2);
-    assert!(rt; nodes == others, "the room is no part of the list");
-    nodes.clear();
-    assert!(rt; nodes.list().is_empty());
-    nodes.push(1);
-    assert_eq!(rt; nodes.list(), [1].as_slice());
+    let nodes = nodes_of(rt.alloc(), 3, &[], &[7, 2])?;
+    assert!(rt; nodes.list() == [7, 2].as_slice());
+    assert!(rt; nodes != nodes_of(rt.alloc(), 2, &[], &[7])?);
+    assert!(rt;
+        nodes == nodes_of(rt.alloc(), 2, &[], &[7, 2])?,
+        "the room is no part of the list"
+    );
+    assert!(rt; nodes_of(rt.alloc(), 3, &[7, 2], &[])?.list().is_empty());
+    assert!(rt; nodes_of(rt.alloc(), 3, &[7, 2], &[1])?.list() == [1].as_slice());
 
-    let mut edges = Edges::with_room(rt.alloc(), 2)?;
-    edges.push(4, 5);
-    edges.push(4, 3);
+    let edges = edges_of(rt.alloc(), 2, &[], &[(4, 5), (4, 3)])?;
     let want: [(u32, u32); 2] = [(4, 5), (4, 3)];
-    assert_eq!(rt; edges.list(), want.as_slice());
-    let mut others = Edges::with_room(rt.alloc(), 3)?;
-    others.push(4, 5);
-    assert!(rt; edges != others);
-    others.push(4, 3);
-    assert!(rt; edges == others, "the room is no part of the list");
-    edges.clear();
-    assert!(rt; edges.list().is_empty());
+    assert!(rt; edges.list() == want.as_slice());
+    assert!(rt; edges != edges_of(rt.alloc(), 3, &[], &[(4, 5)])?);
+    assert!(rt;
+        edges == edges_of(rt.alloc(), 3, &[], &[(4, 5), (4, 3)])?,
+        "the room is no part of the list"
+    );
+    assert!(rt;
+        edges_of(rt.alloc(), 2, &[(4, 5), (4, 3)], &[])?
+            .list()
+            .is_empty()
+    );
     Ok(())
+}
+
+/// Takes the last edges away until so many are left, and adds others.
+#[derive(Clone, Copy)]
+struct Part<'a> {
+    left: u32,
+    more: &'a [(u32, u32)],
+}
+
+/// A graph of so many nodes with this room, after these parts.
+fn graph_of(alloc: Global, nodes: u32, room: u32, parts: &[Part<'_>]) -> Result<Graph, AllocError> {
+    let mut graph = Graph::with_room(alloc, nodes, room)?;
+    for part in parts {
+        if part.left == 0 {
+            graph.clear();
+        } else if part.left <= graph.edges() {
+            graph.truncate(part.left);
+        }
+        for (from, to) in part.more {
+            if graph.edges() < room && *from < graph.nodes() && *to < graph.nodes() {
+                graph.add(*from, *to);
+            }
+        }
+    }
+    Ok(graph)
+}
+
+/// A graph of three nodes that is cut off to one with two edges, and then, if there are to be more, three edges more.
+fn cut_off(alloc: Global, more: bool) -> Result<Graph, AllocError> {
+    let mut start = Graph::with_room(alloc, 3, 2)?;
+    start.add(0, 1);
+    start.add(1, 2);
+    let mut graph = Graph::with_room(alloc, 3, 5)?;
+    graph.add(0, 1);
+    graph.add(1, 2);
+    graph.add(0, 2);
+    graph.add(0, 1);
+    graph.truncate_to(&start);
+    if more {
+        graph.add_all(&[(2, 1), (0, 1), (2, 0)]);
+    }
+    Ok(graph)
+}
+
+/// How many nodes and how many edges there are.
+fn sizes(graph: &Graph) -> (u32, u32) {
+    (graph.nodes(), graph.edges())
+}
+
+/// How many edges lead to each node.
+fn degrees_in(graph: &Graph) -> &[u32] {
+    graph.in_degrees()
+}
+
+/// The ends of an edge.
+fn ends(graph: &Graph, edge: u32) -> Option<(u32, u32)> {
+    if edge < graph.edges() {
+        Some((graph.source(edge), graph.target(edge)))
+    } else {
+        None
+    }
 }
 
 /// The first and the next edge out, and the first and the next edge in.
@@ -57,57 +154,12 @@ fn reads_counted<L: Ledger>(graph: &Graph, node: u32, edge: u32, blank: Blank) -
     ]
 }
 
-fn reads(graph: &Graph, node: u32, edge: u32) -> Reads
-    requires node { node < graph.now.nodes }
-    requires edge { edge < length graph.now.edges }
-{
-    reads_counted::<Brand>(graph, node, edge, Blank::new(1))
-}
-
-/// A graph of three nodes with four edges, and room for one more.
-fn small(alloc: Global) -> Result<Graph, AllocError>
-    ensures { IfOk result (λ g. g ≡
-        record { nodes = 3; room = 5; edges = (0, 1) ∷ (1, 2) ∷ (0, 2) ∷ (0, 1) ∷ [] }) }
-{
-    let mut graph = Graph::with_room(alloc, 3, 5)?;
-    graph.add(0, 1);
-    graph.add(1, 2);
-    graph.add(0, 2);
-    graph.add(0, 1);
-    Ok(graph)
-}
-
-#[test]
-fn edges_are_met_from_the_last_added_one(rt: HostRuntime) -> Result<(), Fail> {
-    let graph = small(rt.alloc())?;
-    assert_eq!(rt; (graph.nodes(), graph.edges()), (3, 4));
-    assert_eq!(rt; (graph.source(2), graph.target(2)), (0, 2));
-    let rows = [
-        (0, 3, [Some(3), Some(2), None, Some(0)]),
-        (1, 2, [Some(1), Some(0), Some(3), Some(1)]),
-        (2, 1, [None, None, Some(2), None]),
-        (0, 0, [Some(3), None, None, None]),
-    ];
-    for (node, edge, want) in rows {
-        assert!(rt; node < 3 && edge < 4);
-        assert_eq!(rt; reads(&graph, node, edge), want, "node {node}, edge {edge}");
+fn reads(graph: &Graph, node: u32, edge: u32) -> Option<Reads> {
+    if node < graph.nodes() && edge < graph.edges() {
+        Some(reads_counted::<Brand>(graph, node, edge, Blank::new(1)))
+    } else {
+        None
     }
-    Ok(())
-}
-
-#[test]
-fn the_last_added_edges_are_taken_away(rt: HostRuntime) -> Result<(), Fail> {
-    let mut graph = small(rt.alloc())?;
-    graph.truncate(2);
-    assert_eq!(rt; graph.edges(), 2);
-    assert_eq!(rt; reads(&graph, 0, 1), [Some(0), None, None, None]);
-    graph.add(2, 1);
-    assert_eq!(rt; reads(&graph, 1, 2), [Some(1), None, Some(2), Some(0)]);
-    graph.clear();
-    assert_eq!(rt; graph.edges(), 0);
-    graph.add(2, 0);
-    assert_eq!(rt; reads(&graph, 2, 0), [Some(0), None, None, None]);
-    Ok(())
 }
 
 fn near_counted<L: Ledger>(graph: &Graph, node: u32, blank: Blank) -> [u32; NEAR]
@@ -121,41 +173,146 @@ fn near_counted<L: Ledger>(graph: &Graph, node: u32, blank: Blank) -> [u32; NEAR
     [near[0], near[1], near[2]]
 }
 
-/// The targets that are at hand.
-fn near(graph: &Graph, node: u32) -> [u32; NEAR]
-    requires { node < graph.now.nodes }
-{
-    near_counted::<Brand>(graph, node, Blank::new(1))
+/// How many edges lead from a node, and the targets that are at hand.
+fn near(graph: &Graph, node: u32) -> Option<(u32, [u32; NEAR])> {
+    if node < graph.nodes() {
+        let targets = near_counted::<Brand>(graph, node, Blank::new(1));
+        Some((graph.out_degree(node), targets))
+    } else {
+        None
+    }
 }
 
-/// A graph of four nodes, from which no edge leads, two, three and five.
-/// One more from each was added last, and taken away.
-fn fanned(alloc: Global) -> Result<Graph, AllocError>
-    ensures { IfOk result (λ g. g.nodes ≡ 4) }
-{
-    let mut graph = Graph::with_room(alloc, 4, 14)?;
-    graph.add(3, 2);
-    graph.add(1, 2);
-    graph.add(3, 0);
-    graph.add(2, 3);
-    graph.add(3, 3);
-    graph.add(2, 1);
-    graph.add(1, 0);
-    graph.add(3, 0);
-    graph.add(2, 0);
-    graph.add(3, 2);
-    graph.add(2, 2);
-    graph.add(1, 3);
-    graph.add(0, 1);
-    graph.add(3, 1);
-    graph.truncate(10);
-    Ok(graph)
+const SMALL: Part<'static> = Part {
+    left: 0,
+    more: &[(0, 1), (1, 2), (0, 2), (0, 1)],
+};
+
+#[test]
+fn edges_are_met_from_the_last_added_one(rt: HostRuntime) -> Result<(), Fail> {
+    let graph = graph_of(rt.alloc(), 3, 5, &[SMALL])?;
+    assert!(rt; sizes(&graph) == (3, 4));
+    assert!(rt; ends(&graph, 2) == Some((0, 2)));
+    let rows = [
+        (0, 3, [Some(3), Some(2), None, Some(0)]),
+        (1, 2, [Some(1), Some(0), Some(3), Some(1)]),
+        (2, 1, [None, None, Some(2), None]),
+        (0, 0, [Some(3), None, None, None]),
+    ];
+    for (node, edge, want) in rows {
+        assert!(rt;
+            reads(&graph, node, edge) == Some(want),
+            "node {node}, edge {edge}"
+        );
+    }
+    Ok(())
 }
+
+/// Parts, how many edges there are then, and what is read at a node and an edge.
+#[derive(Clone, Copy)]
+struct Row<'a> {
+    parts: &'a [Part<'a>],
+    edges: u32,
+    node: u32,
+    edge: u32,
+    reads: Option<Reads>,
+}
+
+const TAKEN_AWAY: [Row<'static>; 4] = [
+    Row {
+        parts: &[SMALL, Part { left: 2, more: &[] }],
+        edges: 2,
+        node: 0,
+        edge: 1,
+        reads: Some([Some(0), None, None, None]),
+    },
+    Row {
+        parts: &[
+            SMALL,
+            Part {
+                left: 2,
+                more: &[(2, 1)],
+            },
+        ],
+        edges: 3,
+        node: 1,
+        edge: 2,
+        reads: Some([Some(1), None, Some(2), Some(0)]),
+    },
+    Row {
+        parts: &[
+            SMALL,
+            Part {
+                left: 2,
+                more: &[(2, 1)],
+            },
+            Part { left: 0, more: &[] },
+        ],
+        edges: 0,
+        node: 2,
+        edge: 0,
+        reads: None,
+    },
+    Row {
+        parts: &[
+            SMALL,
+            Part {
+                left: 2,
+                more: &[(2, 1)],
+            },
+            Part {
+                left: 0,
+                more: &[(2, 0)],
+            },
+        ],
+        edges: 1,
+        node: 2,
+        edge: 0,
+        reads: Some([Some(0), None, None, None]),
+    },
+];
+
+#[test]
+fn the_last_added_edges_are_taken_away(rt: HostRuntime) -> Result<(), Fail> {
+    for row in &TAKEN_AWAY {
+        let graph = graph_of(rt.alloc(), 3, 5, row.parts)?;
+        assert!(rt; sizes(&graph) == (3, row.edges));
+        assert!(rt; reads(&graph, row.node, row.edge) == row.reads);
+    }
+    Ok(())
+}
+
+/// From four nodes no edge leads, two, three and five. One more from each was added last, and taken away.
+const FANNED: [Part<'static>; 2] = [
+    Part {
+        left: 0,
+        more: &[
+            (3, 2),
+            (1, 2),
+            (3, 0),
+            (2, 3),
+            (3, 3),
+            (2, 1),
+            (1, 0),
+            (3, 0),
+            (2, 0),
+            (3, 2),
+            (2, 2),
+            (1, 3),
+            (0, 1),
+            (3, 1),
+        ],
+    },
+    Part {
+        left: 10,
+        more: &[],
+    },
+];
 
 #[test]
 fn degrees_and_the_first_targets_are_at_hand(rt: HostRuntime) -> Result<(), Fail> {
-    let graph = fanned(rt.alloc())?;
-    assert_eq!(rt; graph.in_degrees(), [4, 1, 3, 2].as_slice());
+    let graph = graph_of(rt.alloc(), 4, 14, &FANNED)?;
+    assert!(rt; degrees_in(&graph) == [4, 1, 3, 2].as_slice());
     let rows = [
         (0, 0, [4, 4, 4]),
         (1, 2, [2, 0, 4]),
@@ -163,9 +320,10 @@ fn degrees_and_the_first_targets_are_at_hand(rt: HostRuntime) -> Result<(), Fail
         (3, 5, [2, 0, 3]),
     ];
     for (node, degree, targets) in rows {
-        assert!(rt; node < 4);
-        assert_eq!(rt; graph.out_degree(node), degree, "node {node}");
-        assert_eq!(rt; near(&graph, node), targets, "node {node}");
+        assert!(rt;
+            near(&graph, node) == Some((degree, targets)),
+            "node {node}"
+        );
     }
     Ok(())
 }
@@ -219,22 +377,17 @@ fn sources_without_a_mark_get_one(rt: HostRuntime) {
 
 #[test]
 fn edges_are_added_together_and_taken_away_together(rt: HostRuntime) -> Result<(), Fail> {
-    let mut start = Graph::with_room(rt.alloc(), 3, 2)?;
-    start.add(0, 1);
-    start.add(1, 2);
-    let mut graph = small(rt.alloc())?;
-    graph.truncate_to(&start);
-    assert_eq!(rt; graph.edges(), 2);
-    assert_eq!(rt; reads(&graph, 0, 1), [Some(0), None, None, None]);
-    assert_eq!(rt; graph.in_degrees(), [0, 1, 1].as_slice());
-    assert_eq!(rt; near(&graph, 0), [1, 3, 3]);
-    assert_eq!(rt; near(&graph, 1), [2, 3, 3]);
-    graph.add_all(&[(2, 1), (0, 1), (2, 0)]);
-    assert_eq!(rt; (graph.source(4), graph.target(4)), (2, 0));
-    assert_eq!(rt; reads(&graph, 2, 3), [Some(4), Some(0), Some(1), Some(2)]);
-    assert_eq!(rt; graph.in_degrees(), [1, 3, 1].as_slice());
-    assert_eq!(rt; (graph.out_degree(0), graph.out_degree(2)), (2, 2));
-    assert_eq!(rt; near(&graph, 0), [1, 1, 3]);
-    assert_eq!(rt; near(&graph, 2), [1, 0, 3]);
+    let graph = cut_off(rt.alloc(), false)?;
+    assert!(rt; sizes(&graph) == (3, 2));
+    assert!(rt; reads(&graph, 0, 1) == Some([Some(0), None, None, None]));
+    assert!(rt; degrees_in(&graph) == [0, 1, 1].as_slice());
+    assert!(rt; near(&graph, 0) == Some((1, [1, 3, 3])));
+    assert!(rt; near(&graph, 1) == Some((1, [2, 3, 3])));
+    let graph = cut_off(rt.alloc(), true)?;
+    assert!(rt; ends(&graph, 4) == Some((2, 0)));
+    assert!(rt; reads(&graph, 2, 3) == Some([Some(4), Some(0), Some(1), Some(2)]));
+    assert!(rt; degrees_in(&graph) == [1, 3, 1].as_slice());
+    assert!(rt; near(&graph, 0) == Some((2, [1, 1, 3])));
+    assert!(rt; near(&graph, 2) == Some((2, [1, 0, 3])));
     Ok(())
 }

@@ -5,7 +5,7 @@ use Rattle.std.proofs.lemmas.List.Sums.{get_or-le-sum_by}
 use Rattle.std.proofs.lemmas.Bool.{eq-eqb, eqb-true, and_parts, false_from_ne_true}
 use Rattle.orders.specs.Orders.{nodes_below}
 use Rattle.orders.proofs.Below.{once-below, has-below}
-use Rattle.digraph.specs.Digraph.{HasEdge, out_degree}
+use Rattle.digraph.specs.Digraph.{HasEdge, in_degree, out_degree}
 use Rattle.full_sort.specs.Waiting.{count_between, count_into}
 use Rattle.full_sort.proofs.Sums.{IsOnce, sum-zero, sum-count-le, sum-count-all, one_if}
 
@@ -29,6 +29,13 @@ count-no-edge es a b none =
 -- no more edges lead from distinct nodes to a node than there are
 pub into-le : (es : List (ℕ × ℕ)) (nodes : List ℕ) (t : ℕ) → IsOnce nodes → count_into es nodes t ≤ length es
 into-le es nodes t once = sum-count-le (λ a x. eqb x.0 a && eqb x.1 t) (λ x. x.0) (λ a x passes. sym (eqb-true x.0 a (and_parts (eqb x.0 a) (eqb x.1 t) passes).0)) nodes once es
+
+-- no more edges lead from distinct nodes, and to them, than there are
+pub degrees-le : (es : List (ℕ × ℕ)) (nodes : List ℕ) → IsOnce nodes → sum_by (out_degree es) nodes ≤ length es
+degrees-le es nodes once = sum-count-le (λ a x. eqb x.0 a) (λ x. x.0) (λ a x passes. sym (eqb-true x.0 a passes)) nodes once es
+
+pub degrees_in-le : (es : List (ℕ × ℕ)) (nodes : List ℕ) → IsOnce nodes → sum_by (in_degree es) nodes ≤ length es
+degrees_in-le es nodes once = sum-count-le (λ a x. eqb x.1 a) (λ x. x.1) (λ a x passes. sym (eqb-true x.1 a passes)) nodes once es
 
 -- all edges lead from the nodes of the graph
 pub degrees-all : (es : List (ℕ × ℕ)) (n : ℕ) → All (λ e. (e.0 < n) × (e.1 < n)) es → sum_by (out_degree es) (nodes_below n) ≡ length es

@@ -16,6 +16,10 @@ pub mod Pigeons
 pub mod Measured
 pub mod Descents
 mod EdgeWalks
+mod Ticks
+mod OpenSums
+mod ComponentTicks
+mod SearchTicks
 mod ListsOf
 mod Searches
 mod SearchArrays

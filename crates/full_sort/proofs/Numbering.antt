@@ -89,7 +89,7 @@ pub record IsTaking (E : ℕ → ℕ → Type 0) (root number : ℕ) (old number
 
 module _ (E : ℕ → ℕ → Type 0) (root number : ℕ) (old : List ℕ) (some : number ≢ 0) (fresh : (t : ℕ) → get_or old t 0 ≢ number) where
   -- a node with the number had none
-  was_free : (numbers : List ℕ) → GivesNumber (λ t. (t ≡ root) ⊎ Reach (FreeEdge E old) t root) number old numbers → (t : ℕ) → Has numbers number t → (get_or old t 0 ≡ 0) × ((t ≡ root) ⊎ Reach (FreeEdge E old) t root)
+  pub was_free : (numbers : List ℕ) → GivesNumber (λ t. (t ≡ root) ⊎ Reach (FreeEdge E old) t root) number old numbers → (t : ℕ) → Has numbers number t → (get_or old t 0 ≡ 0) × ((t ≡ root) ⊎ Reach (FreeEdge E old) t root)
   was_free numbers given t h = elim (cases_eq (get_or old t 0) 0) [
     | inl none ↦ elim (given.given t none) [
       | inl clear ↦ absurd (some (sym h ∙ clear))

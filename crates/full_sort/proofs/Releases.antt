@@ -7,7 +7,7 @@ use Rattle.std.proofs.lemmas.List.Elements.{filter-append, All-head, All-tail, A
 use Rattle.std.proofs.lemmas.List.Sums.{sum_by-cons, sum_by-take-drop, count_by_more_yes, count_by_more_no}
 use Rattle.digraph.proofs.AtHand.{length-targets}
 use Rattle.digraph.specs.Digraph.{out_degree, targets_from}
-use Rattle.full_sort.specs.Ready.{GainsFreed, count_of}
+use Rattle.full_sort.specs.Ready.{GainsFreed, times_in}
 use Rattle.full_sort.specs.Waiting.{count_between}
 use Rattle.full_sort.proofs.Walk.{walk_start}
 
@@ -35,7 +35,7 @@ module _ (H0 H after : ℕ → Type 0) (w0 ws : List ℕ) (x : ℕ) (inside : x 
   ]
 
 -- as often as edges lead to a node it stands among the targets
-pub targets-between : (es : List (ℕ × ℕ)) (node t : ℕ) → count_of (targets_from es node) t ≡ count_between es node t
+pub targets-between : (es : List (ℕ × ℕ)) (node t : ℕ) → times_in (targets_from es node) t ≡ count_between es node t
 targets-between [] node t = refl
 targets-between (x ∷ es) node t =
     let rest = targets-between es node t in
@@ -44,12 +44,12 @@ targets-between (x ∷ es) node t =
       | inl holds ↦
           let whole : targets_from (x ∷ es) node ≡ x.1 ∷ targets_from es node = rw holds refl in
           let left = sum_by-cons (λ y. one_if (eqb y t)) x.1 (targets_from es node) in
-          let all = ap (λ (xs : List ℕ). count_of xs t) whole in
+          let all = ap (λ (xs : List ℕ). times_in xs t) whole in
           let here : one_if (eqb x.0 node && eqb x.1 t) ≡ one_if (eqb x.1 t) = rw holds refl in
           omega (arith, rest, right, left, all, here)
       | inr fails ↦
           let whole : targets_from (x ∷ es) node ≡ targets_from es node = rw fails refl in
-          let all = ap (λ (xs : List ℕ). count_of xs t) whole in
+          let all = ap (λ (xs : List ℕ). times_in xs t) whole in
           let here : one_if (eqb x.0 node && eqb x.1 t) ≡ 0 = rw fails refl in
           omega (arith, rest, right, all, here)
     ]
@@ -60,14 +60,14 @@ targets-append es fs node =
     ∙ map-append (λ (e : ℕ × ℕ). e.1) (filter (λ e. eqb e.0 node) es) (filter (λ e. eqb e.0 node) fs)
 
 -- the targets behind the first three are those of the last edges
-pub far-between : (es : List (ℕ × ℕ)) (node e : ℕ) → length (targets_from (take e es) node) ≡ 3 → (t : ℕ) → count_between (drop e es) node t ≡ count_of (drop 3 (targets_from es node)) t
+pub far-between : (es : List (ℕ × ℕ)) (node e : ℕ) → length (targets_from (take e es) node) ≡ 3 → (t : ℕ) → count_between (drop e es) node t ≡ times_in (drop 3 (targets_from es node)) t
 far-between es node e three t =
     let near : List ℕ = targets_from (take e es) node in
     let parts : targets_from es node ≡ near ++ targets_from (drop e es) node =
     ap (λ (xs : List (ℕ × ℕ)). targets_from xs node) (sym (take-append-drop e es)) ∙ targets-append (take e es) (drop e es) node in
     let behind : drop 3 (near ++ targets_from (drop e es) node) ≡ targets_from (drop e es) node =
     subst (λ (n : ℕ). drop n (near ++ targets_from (drop e es) node) ≡ targets_from (drop e es) node) three (drop_at near (targets_from (drop e es) node) (length near) refl) in
-    sym (targets-between (drop e es) node t) ∙ ap (λ (xs : List ℕ). count_of xs t) (sym (ap (drop 3) parts ∙ behind))
+    sym (targets-between (drop e es) node t) ∙ ap (λ (xs : List ℕ). times_in xs t) (sym (ap (drop 3) parts ∙ behind))
 
 -- three are at hand where all but three are behind
 pub three-near : (es : List (ℕ × ℕ)) (node e more : ℕ) → more + 3 ≡ out_degree es node → out_degree (drop e es) node ≡ more → length (targets_from (take e es) node) ≡ 3
@@ -85,23 +85,23 @@ walk-goes_on es node (Some e) less = (e, refl)
 near-zero : (n t : ℕ) → t < n → one_if (eqb n t) ≡ 0
 near-zero n t lt = rw (ne_eqb n t (λ same. omega (arith, lt, same))) refl
 
-count-three : (a b c t : ℕ) → count_of (a ∷ b ∷ c ∷ []) t ≡ one_if (eqb a t) + one_if (eqb b t) + one_if (eqb c t)
+count-three : (a b c t : ℕ) → times_in (a ∷ b ∷ c ∷ []) t ≡ one_if (eqb a t) + one_if (eqb b t) + one_if (eqb c t)
 count-three a b c t =
     let first = sum_by-cons (λ x. one_if (eqb x t)) a (b ∷ c ∷ []) in
     let second = sum_by-cons (λ x. one_if (eqb x t)) b (c ∷ []) in
     let third = sum_by-cons (λ x. one_if (eqb x t)) c [] in
     omega (arith, first, second, third)
 
-count-two : (a b t : ℕ) → count_of (a ∷ b ∷ []) t ≡ one_if (eqb a t) + one_if (eqb b t)
+count-two : (a b t : ℕ) → times_in (a ∷ b ∷ []) t ≡ one_if (eqb a t) + one_if (eqb b t)
 count-two a b t =
     let first = sum_by-cons (λ x. one_if (eqb x t)) a (b ∷ []) in
     let second = sum_by-cons (λ x. one_if (eqb x t)) b [] in
     omega (arith, first, second)
 
-count-one : (a t : ℕ) → count_of (a ∷ []) t ≡ one_if (eqb a t)
+count-one : (a t : ℕ) → times_in (a ∷ []) t ≡ one_if (eqb a t)
 count-one a t = let first = sum_by-cons (λ x. one_if (eqb x t)) a [] in omega (arith, first)
 
-padded : (T : List ℕ) (n t : ℕ) → t < n → count_of (get_or T 0 n ∷ get_or T 1 n ∷ get_or T 2 n ∷ []) t ≡ count_of (take 3 T) t
+padded : (T : List ℕ) (n t : ℕ) → t < n → times_in (get_or T 0 n ∷ get_or T 1 n ∷ get_or T 2 n ∷ []) t ≡ times_in (take 3 T) t
 padded [] n t lt = let all = count-three n n n t in let zeros = near-zero n t lt in omega (arith, all, zeros)
 padded (a ∷ []) n t lt = let all = count-three a n n t in let one = count-one a t in let zeros = near-zero n t lt in omega (arith, all, one, zeros)
 padded (a ∷ b ∷ []) n t lt = let all = count-three a b n t in let two = count-two a b t in let zeros = near-zero n t lt in omega (arith, all, two, zeros)
@@ -115,9 +115,9 @@ explicit (a ∷ b ∷ c ∷ []) long = refl
 explicit (a ∷ b ∷ c ∷ d ∷ N) long = absurd (omega (arith, long))
 
 module _ (T N : List ℕ) (n : ℕ) (long : length N ≡ 3) (at : (k : ℕ) → k < 3 → get_or N k 0 ≡ get_or T k n) where
-  pub near-count : (t : ℕ) → t < n → count_of N t ≡ count_of (take 3 T) t
+  pub near-count : (t : ℕ) → t < n → times_in N t ≡ times_in (take 3 T) t
   near-count t lt =
-      ap (λ (xs : List ℕ). count_of xs t)
+      ap (λ (xs : List ℕ). times_in xs t)
       (explicit N long
       ∙ ap (λ (a : ℕ). a ∷ get_or N 1 0 ∷ get_or N 2 0 ∷ []) (at 0 (omega arith))
       ∙ ap (λ (b : ℕ). get_or T 0 n ∷ b ∷ get_or N 2 0 ∷ []) (at 1 (omega arith))
@@ -149,8 +149,8 @@ targets-inside (x ∷ es) node n h =
 
 -- one target more of a list is released
 module _ (N : List ℕ) (i x : ℕ) (lt : i < length N) (at : x ≡ get_or N i 0) (n : ℕ) (w0 ws : List ℕ) (long : length ws ≡ n + 1)
-    (counted : (t : ℕ) → t < n → get_or ws t 0 + count_of (take i N) t ≡ get_or w0 t 0) (enough : (t : ℕ) → t < n → count_of N t ≤ get_or w0 t 0) where
-  here-more : count_of (take (i + 1) N) x ≡ count_of (take i N) x + 1
+    (counted : (t : ℕ) → t < n → get_or ws t 0 + times_in (take i N) t ≡ get_or w0 t 0) (enough : (t : ℕ) → t < n → times_in N t ≤ get_or w0 t 0) where
+  here-more : times_in (take (i + 1) N) x ≡ times_in (take i N) x + 1
   here-more = count_by_more_yes (λ y. eqb y x) N i 0 lt (eq-eqb (get_or N i 0) x (sym at))
 
   pub list-some : x < n → 1 ≤ get_or ws x 0
@@ -161,10 +161,10 @@ module _ (N : List ℕ) (i x : ℕ) (lt : i < length N) (at : x ≡ get_or N i 0
       let parts = sum_by-take-drop (λ y. one_if (eqb y x)) N (i + 1) in
       omega (arith, so_far, most, more, parts)
 
-  pub list-less : x < n + 1 → (t : ℕ) → t < n → get_or (set ws x (get_or ws x 0 - 1)) t 0 + count_of (take (i + 1) N) t ≡ get_or w0 t 0
+  pub list-less : x < n + 1 → (t : ℕ) → t < n → get_or (set ws x (get_or ws x 0 - 1)) t 0 + times_in (take (i + 1) N) t ≡ get_or w0 t 0
   list-less inside t below = elim (cases_eq t x) [
     | inl same ↦
-        subst (λ (m : ℕ). get_or (set ws x (get_or ws x 0 - 1)) m 0 + count_of (take (i + 1) N) m ≡ get_or w0 m 0) (sym same)
+        subst (λ (m : ℕ). get_or (set ws x (get_or ws x 0 - 1)) m 0 + times_in (take (i + 1) N) m ≡ get_or w0 m 0) (sym same)
         (let written = get_or-set_same ws x (get_or ws x 0 - 1) 0 (omega (arith, inside, long)) in
         let so_far = counted x (omega (arith, below, same)) in
         let some = list-some (omega (arith, below, same)) in
@@ -178,7 +178,7 @@ module _ (N : List ℕ) (i x : ℕ) (lt : i < length N) (at : x ≡ get_or N i 0
   ]
 
 -- the targets are those at hand and those behind
-pub parts-between : (es : List (ℕ × ℕ)) (node t : ℕ) → count_of (take 3 (targets_from es node)) t + count_of (drop 3 (targets_from es node)) t ≡ count_between es node t
+pub parts-between : (es : List (ℕ × ℕ)) (node t : ℕ) → times_in (take 3 (targets_from es node)) t + times_in (drop 3 (targets_from es node)) t ≡ count_between es node t
 parts-between es node t =
     let parts = sum_by-take-drop (λ x. one_if (eqb x t)) (targets_from es node) 3 in
     let all = targets-between es node t in

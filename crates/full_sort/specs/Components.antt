@@ -1,6 +1,7 @@
 -- Strongly connected components, by a number for each node.
-use Rattle.std.specs.Prelude.{◌≡◌, ◌≢◌, ◌↔◌, ◌⊎◌, ℕ, ◌<◌, List, slice_index}
+use Rattle.std.specs.Prelude.{◌≡◌, ◌≢◌, ◌↔◌, ◌⊎◌, ◌==◌, ℕ, zero, suc, ◌+◌, ◌<◌, List, Bool, cond, slice_index}
 use Rattle.orders.specs.Paths.{Reach}
+use Rattle.digraph.specs.Digraph.{in_degree}
 
 -- the nodes are one, or each reaches the other
 abbrev pub InOneComponent : (ℕ → ℕ → Type 0) → ℕ → ℕ → Type 0
@@ -27,3 +28,12 @@ pub record NumbersSources (E : ℕ → ℕ → Type 0) (root number : ℕ) (old 
 -- an edge leads from the node to one with the same number
 abbrev pub LeadsWithin : (ℕ → ℕ → Type 0) → List ℕ → ℕ → Type 0
 LeadsWithin E numbers node = (t : ℕ) × E node t × (slice_index numbers t ≡ slice_index numbers node)
+
+-- the sum of the terms of the nodes below n that pass the test
+abbrev pub sum_where : (ℕ → Bool) → (ℕ → ℕ) → ℕ → ℕ
+sum_where passes term zero = 0
+sum_where passes term (suc n) = cond (passes n) (term n) 0 + sum_where passes term n
+
+-- how many edges lead to nodes without a number
+abbrev pub edges_unnumbered : List (ℕ × ℕ) → ℕ → List ℕ → ℕ
+edges_unnumbered edges n numbers = sum_where (λ t. slice_index numbers t == 0) (in_degree edges) n

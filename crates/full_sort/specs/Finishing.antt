@@ -1,7 +1,7 @@
 -- The order in which a depth-first search along the edges finishes nodes.
 use Rattle.std.specs.Prelude.{◌≡◌, ◌≢◌, ◌↔◌, ℕ, zero, suc, ◌<◌, ◌≤◌, List, ◌++◌, Bool, true, length, slice_index, take, drop, Contains, AllPairs}
 use Rattle.orders.specs.Paths.{Reach}
-use Rattle.digraph.specs.Digraph.{HasEdge, source_of, target_of}
+use Rattle.digraph.specs.Digraph.{HasEdge, out_degree, source_of, target_of}
 use Rattle.full_sort.specs.Waiting.{is_marked}
 
 -- The list has exactly the nodes of which the fact holds, each once.
@@ -31,6 +31,10 @@ pub record IsSearch (E : ℕ → ℕ → Type 0) (marks : List Bool) (finished p
 abbrev pub first_seen : List (ℕ × ℕ) → ℕ → ℕ
 first_seen edges zero = length edges
 first_seen edges (suc last) = last
+
+-- how many edges of the node were not looked at
+abbrev pub unseen : List (ℕ × ℕ) → ℕ → ℕ → ℕ
+unseen edges node last = out_degree (take (first_seen edges last) edges) node
 
 -- The edges of the node that were looked at lead to marked nodes. The last one of them is kept, one higher, and 0 where there is none.
 pub record HasSeen (edges : List (ℕ × ℕ)) (marks : List Bool) (node last : ℕ) : Type 0 where

@@ -18,8 +18,8 @@ TakesHeld old kept new (Some n) = (length new ≡ length old) × IsHeld old kept
     × ((t : ℕ) → (bit_of new t ≡ 1) ↔ (IsHeld old kept t × (t ≢ n)))
 
 -- how often the number stands in the list
-abbrev pub count_of : List ℕ → ℕ → ℕ
-count_of xs t = count_by (λ x. x == t) xs
+abbrev pub times_in : List ℕ → ℕ → ℕ
+times_in xs t = count_by (λ x. x == t) xs
 
 -- Those that were held before are held, and the nodes whose count fell to 0.
 abbrev pub GainsFreed : (ℕ → Type 0) → (ℕ → Type 0) → List ℕ → List ℕ → Type 0

@@ -1,8 +1,8 @@
 //! Strongly connected components, by a number for each node.
 ghost use Rattle.std.specs.Prelude.{◌≡◌, ◌≢◌, ℕ, ◌+◌, ◌<◌, ◌≤◌, length, slice_index, take};
-ghost use Rattle.digraph.specs.Digraph.{HasEdge};
+ghost use Rattle.digraph.specs.Digraph.{HasEdge, in_degree};
 ghost use Rattle.full_sort.specs.Finishing.{IsFinishingOrder, IsListOf};
-ghost use Rattle.full_sort.specs.Components.{GivesNumber, NumbersComponents, NumbersSources};
+ghost use Rattle.full_sort.specs.Components.{GivesNumber, NumbersComponents, NumbersSources, edges_unnumbered};
 
 use digraph::{Graph, Steps};
 use std::sync::ledger::Ledger;
@@ -52,7 +52,7 @@ fn take_sources<L: Ledger>(
     ensures front { take count queue.new ≡ take count queue.old }
     ensures given { GivesNumber (λ t. HasEdge graph.now.edges t node) number numbers.old numbers.new }
     ensures taken { (t : ℕ) → HasEdge graph.now.edges t node → slice_index numbers.new t ≢ 0 }
-    ensures later { steps.old ≤ steps.new }
+    ensures ticks { steps.new ≡ steps.old + in_degree graph.now.edges node }
 {
     let mut taken = count;
     let mut next = graph.first_in(node, steps);
@@ -78,6 +78,8 @@ fn number_sources<L: Ledger>(
     requires free { slice_index numbers.old root ≡ 0 }
     requires fresh { (t : ℕ) → slice_index numbers.old t ≢ root + 1 }
     ensures numbered { NumbersSources (HasEdge graph.now.edges) root (root + 1) numbers.old numbers.new }
+    ensures bound { steps.new + edges_unnumbered graph.now.edges graph.now.nodes numbers.new
+        ≤ steps.old + edges_unnumbered graph.now.edges graph.now.nodes numbers.old }
     ensures later { steps.old ≤ steps.new }
 {
     // The prover is told how many nodes there may be.
@@ -106,6 +108,7 @@ pub fn number_components<L: Ledger>(
     requires queue { length queue.old ≡ graph.now.nodes }
     requires clear { (t : ℕ) → slice_index numbers.old t ≡ 0 }
     ensures numbered { NumbersComponents (HasEdge graph.now.edges) graph.now.nodes numbers.new }
+    ensures bound { steps.new ≤ steps.old + length graph.now.edges }
     ensures later { steps.old ≤ steps.new }
 {
     // The prover is told that the ends of all edges are nodes, and how many there may be.

@@ -1,6 +1,6 @@
 //! The least node on a cycle, by the numbers of components.
-ghost use Rattle.std.specs.Prelude.{◌≡◌, ◌↔◌, ℕ, ◌<◌, ◌≤◌, length, IsTrue, IfSome, IfNone};
-ghost use Rattle.digraph.specs.Digraph.{HasEdge};
+ghost use Rattle.std.specs.Prelude.{◌≡◌, ◌↔◌, ℕ, ◌+◌, ◌<◌, ◌≤◌, length, IsTrue, IfSome, IfNone};
+ghost use Rattle.digraph.specs.Digraph.{HasEdge, out_degree};
 ghost use Rattle.orders.specs.Paths.{Reach};
 ghost use Rattle.full_sort.specs.Components.{LeadsWithin, NumbersComponents};
 
@@ -12,6 +12,7 @@ fn leads_within<L: Ledger>(graph: &Graph, node: u32, numbers: &[u32], steps: &mu
     requires node { node < graph.now.nodes }
     requires numbers { length numbers.now ≡ graph.now.nodes }
     ensures within { IsTrue result ↔ LeadsWithin (HasEdge graph.now.edges) numbers.now node }
+    ensures bound { steps.new ≤ steps.old + out_degree graph.now.edges node }
     ensures later { steps.old ≤ steps.new }
 {
     let mut next = graph.first_out(node, steps);
@@ -37,6 +38,7 @@ pub fn least_reaching_itself<L: Ledger>(
         ¬ Reach (HasEdge graph.now.edges) t t) }
     ensures none { IfNone result ((t : ℕ) → t < graph.now.nodes →
         ¬ Reach (HasEdge graph.now.edges) t t) }
+    ensures bound { steps.new ≤ steps.old + length graph.now.edges }
     ensures later { steps.old ≤ steps.new }
 {
     for node in 0..graph.nodes() {

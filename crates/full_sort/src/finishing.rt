@@ -1,7 +1,7 @@
 //! Nodes in the order in which a depth-first search finishes them.
-ghost use Rattle.std.specs.Prelude.{◌≡◌, ℕ, ◌+◌, ◌<◌, ◌≤◌, ◌^◌, length, slice_set, true, false, IfSome, IfNone};
-ghost use Rattle.digraph.specs.Digraph.{HasEdge};
-ghost use Rattle.full_sort.specs.Finishing.{HasSeen, IsFinishingOrder, IsSearchAt};
+ghost use Rattle.std.specs.Prelude.{◌≡◌, ℕ, ◌+◌, ◌<◌, ◌≤◌, ◌^◌, length, slice_set, take, true, false, IfSome, IfNone};
+ghost use Rattle.digraph.specs.Digraph.{HasEdge, edges_out};
+ghost use Rattle.full_sort.specs.Finishing.{HasSeen, IsFinishingOrder, IsSearchAt, unseen};
 ghost use Rattle.full_sort.specs.Waiting.{is_marked};
 
 use digraph::{Graph, Steps};
@@ -26,6 +26,9 @@ fn next_unmarked<L: Ledger>(
     ensures seen { IfSome result (λ t. HasSeen graph.now.edges (slice_set marks.now t true) node seen.new) }
     ensures none { IfNone result ((t : ℕ) → HasEdge graph.now.edges node t →
         is_marked marks.now t ≡ true) }
+    ensures fewer { IfSome result (λ t. steps.new + unseen graph.now.edges node seen.new
+        ≤ steps.old + unseen graph.now.edges node seen.old) }
+    ensures bound { steps.new ≤ steps.old + unseen graph.now.edges node seen.old }
     ensures later { steps.old ≤ steps.new }
 {
     let mut next = match seen.checked_sub(1) {
@@ -82,6 +85,8 @@ fn finish_from<L: Ledger>(
     ensures search { IsSearchAt graph.now.edges marks.new seen.new order.new result (length order.new) }
     ensures root { is_marked marks.new root ≡ true }
     ensures kept { (t : ℕ) → is_marked marks.old t ≡ true → is_marked marks.new t ≡ true }
+    ensures bound { steps.new + edges_out graph.now.edges (take finished order.old)
+        ≤ steps.old + edges_out graph.now.edges (take result order.new) }
     ensures later { steps.old ≤ steps.new }
 {
     // The prover is told that the ends of all edges are nodes, and how many there may be.
@@ -116,6 +121,7 @@ pub fn finishing_order<L: Ledger>(
     requires clear { (t : ℕ) → is_marked marks.old t ≡ false }
     ensures order { IsFinishingOrder (HasEdge graph.now.edges) graph.now.nodes order.new }
     ensures clear { (t : ℕ) → is_marked marks.new t ≡ false }
+    ensures bound { steps.new ≤ steps.old + length graph.now.edges }
     ensures later { steps.old ≤ steps.new }
 {
     let mut done = 0;

@@ -2,7 +2,7 @@
 ghost use Rattle.std.specs.Prelude.{◌≡◌, ◌≢◌, ◌↔◌, ◌⊎◌, ℕ, ◌+◌, ◌-◌, ◌*◌, ◌<◌, ◌≤◌, drop, length, min, slice_index, slice_set, take, None};
 ghost use Rattle.digraph.specs.Digraph.{out_degree, targets_from};
 ghost use Rattle.full_sort.specs.Bits.{bit_of};
-ghost use Rattle.full_sort.specs.Ready.{GainsFreed, HasRoom, IsHeld, count_of};
+ghost use Rattle.full_sort.specs.Ready.{GainsFreed, HasRoom, IsHeld, times_in};
 ghost use Rattle.full_sort.specs.Waiting.{count_between};
 
 use crate::node_set::NodeSet;
@@ -48,7 +48,7 @@ fn release_far<L: Ledger>(
     requires enough { (t : ℕ) → t < graph.now.nodes →
         count_between graph.now.edges node t ≤ slice_index counts.old t }
     ensures less { (t : ℕ) → t < graph.now.nodes →
-        slice_index counts.new t + count_of (drop 3 (targets_from graph.now.edges node)) t ≡ slice_index counts.old t }
+        slice_index counts.new t + times_in (drop 3 (targets_from graph.now.edges node)) t ≡ slice_index counts.old t }
     ensures spare { slice_index counts.new graph.now.nodes
         ≡ slice_index counts.old graph.now.nodes }
     ensures counts { length counts.new ≡ length counts.old }
@@ -82,7 +82,7 @@ fn release_rest<L: Ledger>(
     requires enough { (t : ℕ) → t < graph.now.nodes →
         count_between graph.now.edges node t ≤ slice_index counts.old t }
     ensures less { (t : ℕ) → t < graph.now.nodes →
-        slice_index counts.new t + count_of (drop 3 (targets_from graph.now.edges node)) t ≡ slice_index counts.old t }
+        slice_index counts.new t + times_in (drop 3 (targets_from graph.now.edges node)) t ≡ slice_index counts.old t }
     ensures spare { slice_index counts.new graph.now.nodes
         ≡ slice_index counts.old graph.now.nodes }
     ensures counts { length counts.new ≡ length counts.old }
@@ -116,9 +116,9 @@ fn release_near<L: Ledger>(
     requires kept { HasRoom ready.old kept }
     requires spare { 4 ≤ slice_index counts.old graph.now.nodes }
     requires enough { (t : ℕ) → t < graph.now.nodes →
-        count_of (take 3 (targets_from graph.now.edges node)) t ≤ slice_index counts.old t }
+        times_in (take 3 (targets_from graph.now.edges node)) t ≤ slice_index counts.old t }
     ensures less { (t : ℕ) → t < graph.now.nodes →
-        slice_index counts.new t + count_of (take 3 (targets_from graph.now.edges node)) t ≡ slice_index counts.old t }
+        slice_index counts.new t + times_in (take 3 (targets_from graph.now.edges node)) t ≡ slice_index counts.old t }
     ensures spare { 1 ≤ slice_index counts.new graph.now.nodes }
     ensures counts { length counts.new ≡ length counts.old }
     ensures gained { GainsFreed (IsHeld ready.old kept) (IsHeld ready.new result) counts.old counts.new }

@@ -142,7 +142,7 @@ pub fn window_order_into<L: Ledger>(
 /// of its own strongly connected component. The components are found by two searches, after Kosaraju and
 /// Sharir: one along the edges gives the order in which it finishes the nodes; from its last node to the
 /// first, the nodes that lead there against the edges, without those of earlier components, are one.
-/// Each search is in time of the nodes and the edges.
+/// Each search is in time of the nodes and the edges. Each edge ticks three times at most: once in each search, and once where its ends are compared.
 pub fn least_on_cycle<L: Ledger>(
     graph: &Graph,
     scratch: &mut Scratch,
@@ -152,6 +152,7 @@ pub fn least_on_cycle<L: Ledger>(
     ensures least { IfSome result (IsLeastOnCycle (HasEdge graph.now.edges)) }
     ensures none { IfNone result ((node : ℕ) → ¬ IsOnCycle (HasEdge graph.now.edges) node) }
     ensures room { scratch.new ≡ scratch.old }
+    ensures bound { steps.new ≤ steps.old + 3 * length graph.now.edges }
     ensures later { steps.old ≤ steps.new }
 {
     // The prover is told that the ends of all edges are nodes, and how many there may be.

@@ -1,10 +1,11 @@
-//! Orders of small graphs, and of one that fills several words of the set.
-ghost use Rattle.std.specs.Prelude.{◌≡◌, ◌≢◌, ◌+◌, ◌≤◌, ◌<◌, length, All, AllPairs, IfOk};
+//! Orders of small graphs, and of one that fills several words of the set. The tests compare plain values: what makes the calls says nothing of orders.
+ghost use Rattle.std.specs.Prelude.{◌≡◌, ◌≢◌, ◌<◌, IsTrue, length, All, AllPairs};
 
 use crate::{Scratch, least_order_into, window_order_into};
 use digraph::{Graph, Steps};
 use std::alloc::{AllocError, Global};
 use std::marker::Brand;
+use std::process::Abort;
 use std::sync::ledger::{Blank, Ledger};
 use std::test::Fail;
 
@@ -63,73 +64,174 @@ fn window_order(graph: &Graph, window: &[u32], scratch: &mut Scratch, order: &mu
     window_counted::<Brand>(graph, window, scratch, order, Blank::new(1))
 }
 
-#[test]
-fn a_failed_sort_leaves_room_for_a_good_one(rt: HostRuntime) -> Result<(), Fail> {
-    let mut graph = Graph::with_room(rt.alloc(), 4, 3)?;
-    graph.add(0, 1);
-    graph.add(1, 2);
-    graph.add(2, 1);
-    let mut scratch = Scratch::new(rt.alloc(), 4)?;
-    let mut order = [9; 4];
-    assert!(rt; !least(&graph, &mut scratch, &mut order));
-    assert_eq!(rt; order, [9; 4], "unchanged");
-    graph.truncate(2);
-    assert!(rt; least(&graph, &mut scratch, &mut order));
-    assert_eq!(rt; order, [0, 1, 2, 3]);
-    graph.clear();
-    graph.add(3, 0);
-    graph.add(2, 1);
-    assert!(rt; least(&graph, &mut scratch, &mut order));
-    assert_eq!(rt; order, [2, 1, 3, 0]);
-    Ok(())
-}
-
-#[test]
-fn windows_are_sorted_by_the_edges_among_them(rt: HostRuntime) -> Result<(), Fail> {
-    let mut graph = Graph::with_room(rt.alloc(), 4, 3)?;
-    graph.add(0, 1);
-    graph.add(1, 2);
-    graph.add(2, 1);
-    let mut scratch = Scratch::new(rt.alloc(), 4)?;
-    let mut three = [9; 3];
-    assert!(rt; !window_order(&graph, &[1, 3, 2], &mut scratch, &mut three));
-    assert_eq!(rt; three, [9; 3], "unchanged");
-    assert!(rt; window_order(&graph, &[2, 0, 3], &mut scratch, &mut three));
-    assert_eq!(rt; three, [0, 2, 3]);
-    let mut two = [9; 2];
-    assert!(rt; window_order(&graph, &[1, 0], &mut scratch, &mut two));
-    assert_eq!(rt; two, [0, 1]);
-    assert!(rt; window_order(&graph, &[], &mut scratch, &mut []));
-    Ok(())
-}
-
-#[test]
-fn no_nodes_have_an_order(rt: HostRuntime) -> Result<(), Fail> {
-    let graph = Graph::with_room(rt.alloc(), 0, 0)?;
-    let mut scratch = Scratch::new(rt.alloc(), 0)?;
-    assert!(rt; least(&graph, &mut scratch, &mut []));
-    Ok(())
-}
-
-/// A chain of all nodes, from the last to the first.
-fn falling(alloc: Global, nodes: u32) -> Result<Graph, AllocError>
-    ensures { IfOk result (λ graph. graph.nodes ≡ nodes) }
+/// Whether the list has nodes below a number alone, each once.
+fn is_window(window: &[u32], nodes: u32) -> bool
+    ensures below { IsTrue result → All (λ n. n < nodes) window.now }
+    ensures once { IsTrue result → AllPairs (λ a b. a ≢ b) window.now }
 {
+    for place in 0..window.len() {
+        if window[place] >= nodes {
+            return false;
+        }
+        for before in 0..place {
+            if window[before] == window[place] {
+                return false;
+            }
+        }
+    }
+    true
+}
+
+/// The order of all nodes or of a window, and whether there is one. Where there is none, each place has a 9.
+fn sorted(
+    alloc: Global,
+    graph: &Graph,
+    window: Option<&[u32]>,
+    scratch: &mut Scratch,
+) -> Result<(bool, Vec<u32>), AllocError>
+    requires { scratch.old ≡ graph.now.nodes }
+    ensures { scratch.new ≡ scratch.old }
+{
+    let Some(window) = window else {
+        let mut order = vec![in alloc; 9u32; graph.nodes() as usize]?;
+        let found = least(graph, scratch, &mut order);
+        return Ok((found, order));
+    };
+    let mut order = vec![in alloc; 9u32; window.len()]?;
+    let found = is_window(window, graph.nodes())
+        && window_order(graph, window, scratch, &mut order);
+    Ok((found, order))
+}
+
+/// A sort of all nodes or of a window, after the last edges are taken away until so many are left, and others are added.
+#[derive(Clone, Copy)]
+struct Sort<'a> {
+    left: u32,
+    more: &'a [(u32, u32)],
+    window: Option<&'a [u32]>,
+    order: Option<&'a [u32]>,
+}
+
+/// Checks sorts of one graph, one after another, in one scratch.
+fn check(rt: &impl Abort, alloc: Global, nodes: u32, sorts: &[Sort<'_>]) -> Result<(), AllocError> {
+    let mut graph = Graph::with_room(alloc, nodes, 3)?;
+    let mut scratch = Scratch::new(alloc, nodes)?;
+    for sort in sorts {
+        if sort.left <= graph.edges() {
+            graph.truncate(sort.left);
+        }
+        for (from, to) in sort.more {
+            if graph.edges() < 3 && *from < nodes && *to < nodes {
+                graph.add(*from, *to);
+            }
+        }
+        let (found, order) = sorted(alloc, &graph, sort.window, &mut scratch)?;
+        match sort.order {
+            Some(want) => assert!(rt; found && order.as_slice() == want),
+            None => assert!(rt; !found && order.iter().all(|node| *node == 9), "unchanged"),
+        }
+    }
+    Ok(())
+}
+
+/// A number of nodes, and sorts one after another.
+#[derive(Clone, Copy)]
+struct Case<'a> {
+    nodes: u32,
+    sorts: &'a [Sort<'a>],
+}
+
+const CASES: [Case<'static>; 3] = [
+    // a failed sort leaves room for a good one
+    Case {
+        nodes: 4,
+        sorts: &[
+            Sort {
+                left: 0,
+                more: &[(0, 1), (1, 2), (2, 1)],
+                window: None,
+                order: None,
+            },
+            Sort {
+                left: 2,
+                more: &[],
+                window: None,
+                order: Some(&[0, 1, 2, 3]),
+            },
+            Sort {
+                left: 0,
+                more: &[(3, 0), (2, 1)],
+                window: None,
+                order: Some(&[2, 1, 3, 0]),
+            },
+        ],
+    },
+    // windows are sorted by the edges among their nodes
+    Case {
+        nodes: 4,
+        sorts: &[
+            Sort {
+                left: 0,
+                more: &[(0, 1), (1, 2), (2, 1)],
+                window: Some(&[1, 3, 2]),
+                order: None,
+            },
+            Sort {
+                left: 3,
+                more: &[],
+                window: Some(&[2, 0, 3]),
+                order: Some(&[0, 2, 3]),
+            },
+            Sort {
+                left: 3,
+                more: &[],
+                window: Some(&[1, 0]),
+                order: Some(&[0, 1]),
+            },
+            Sort {
+                left: 3,
+                more: &[],
+                window: Some(&[]),
+                order: Some(&[]),
+            },
+        ],
+    },
+    // no nodes have an order
+    Case {
+        nodes: 0,
+        sorts: &[Sort {
+            left: 0,
+            more: &[],
+            window: None,
+            order: Some(&[]),
+        }],
+    },
+];
+
+#[test]
+fn small_graphs_and_windows_are_sorted(rt: HostRuntime) -> Result<(), Fail> {
+    for case in &CASES {
+        check(&rt, rt.alloc(), case.nodes, case.sorts)?;
+    }
+    Ok(())
+}
+
+/// A chain of all nodes, from the last to the first, and its order.
+fn falling(alloc: Global, nodes: u32) -> Result<(bool, Vec<u32>), AllocError> {
     let mut graph = Graph::with_room(alloc, nodes, nodes)?;
     for node in 1..nodes {
         graph.add(node, node - 1);
     }
-    Ok(graph)
+    let mut scratch = Scratch::new(alloc, nodes)?;
+    sorted(alloc, &graph, None, &mut scratch)
 }
 
 #[test]
 fn a_long_chain_is_sorted(rt: HostRuntime) -> Result<(), Fail> {
-    let graph = falling(rt.alloc(), 5000)?;
-    let mut scratch = Scratch::new(rt.alloc(), 5000)?;
-    let mut order = vec![in rt.alloc(); 0u32; 5000]?;
-    assert!(rt; least(&graph, &mut scratch, &mut order));
+    let (found, order) = falling(rt.alloc(), 5000)?;
+    assert!(rt; found && order.len() == 5000);
     for (place, node) in order.iter().enumerate() {
-        assert_eq!(rt; place + *node as usize, 4999);
+        assert!(rt; u64::saturating_add(place as u64, u64::from(*node)) == 4999);
     }
     Ok(())
 }

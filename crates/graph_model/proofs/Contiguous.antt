@@ -12,7 +12,7 @@ use Rattle.test_lang.proofs.Threads.{StandsIn, thread_at-stands, thread_at_some,
 use Rattle.graph_model.specs.declared.kinds.Kind.{Kind}
 use Rattle.graph_model.specs.FirstLast.{last_below, first_from}
 use Rattle.graph_model.specs.FewKept.{is_kind, is_kind_beside, in_thread, last_of_kind, next_of_kind}
-use Rattle.graph_model.specs.NearestNodes.{last_node, first_node}
+use Rattle.graph_model.specs.NearestNodes.{last_node, first_passing}
 use Rattle.graph_model.proofs.Near.{last_below-some, first_from-some}
 
 -- a node between two of a thread is in it
@@ -117,7 +117,7 @@ last_of_kind_told p kind n op e =
     ∙ last_below-same (λ k. same_thread p n k && test k) (is_kind_beside kind p n) (λ k. beside_is kind op (slice_get (nodes p) n) (slice_get (nodes p) k) e) n
 
 pub next_of_kind_told : (p : Program) (kind : Kind) (n : ℕ) (op : Op) → n < op_count p → op_at p n ≡ Some op →
-    in_thread p n (first_node p (op_count p - suc n) (is_kind kind op)) ≡ next_of_kind kind p n
+    in_thread p n (first_passing p (op_count p - suc n) (is_kind kind op)) ≡ next_of_kind kind p n
 next_of_kind_told p kind n op lt e =
     let test : ℕ → Bool = at_node (λ node. is_kind kind op node.1) p in
     let k : ℕ = op_count p - suc n in
@@ -131,8 +131,8 @@ next_of_kind_told p kind n op lt e =
 pub last_node-below : (p : Program) (n : ℕ) (test : Op → Bool) (x : ℕ) → n ≤ op_count p → last_node p n test ≡ Some x → x < op_count p
 last_node-below p n test x h e = let lt = (last_below-some (at_node (λ node. test node.1) p) n x e).below in omega (arith, lt, h)
 
-pub first_node-below : (p : Program) (k : ℕ) (test : Op → Bool) (x : ℕ) → k ≤ op_count p → first_node p k test ≡ Some x → x < op_count p
-first_node-below p k test x h e = let lt = (first_from-some (at_node (λ node. test node.1) p) k (op_count p - k) x e).before_end in omega (arith, lt, h)
+pub first_passing-below : (p : Program) (k : ℕ) (test : Op → Bool) (x : ℕ) → k ≤ op_count p → first_passing p k test ≡ Some x → x < op_count p
+first_passing-below p k test x h e = let lt = (first_from-some (at_node (λ node. test node.1) p) k (op_count p - k) x e).before_end in omega (arith, lt, h)
 
 in_thread-some : (p : Program) (n : ℕ) (found : Option ℕ) (x : ℕ) → in_thread p n found ≡ Some x → found ≡ Some x
 in_thread-some p n None x e = e

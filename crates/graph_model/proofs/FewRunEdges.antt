@@ -1,6 +1,6 @@
 -- The static edges and those of the loads reach each edge of the run.
 use Rattle.std.proofs.Common.{◌≡◌, ℕ, ◌<◌, ◌≤◌, List, [], ◌∷◌, Bool, true, false, cond, ◌&&◌, length, Contains, inl, inr, arith, refl, sym, ap, subst, ◌∙◌}
-use Rattle.std.specs.Prelude.{Option, Some, None, slice_get, ◌==◌, nat_lt}
+use Rattle.std.specs.Prelude.{Option, Some, None, find, slice_get, ◌==◌, nat_lt}
 use Rattle.std.specs.List.{flat_map}
 use Rattle.std.specs.Option.{option_map}
 use Rattle.std.proofs.lemmas.Bool.{cases_lt, eqb-true, eq-eqb}
@@ -28,11 +28,11 @@ use Rattle.test_lang.proofs.Ranks.{one_store}
 use Rattle.test_lang.proofs.Threads.{thread_at-stands}
 use Rattle.digraph.specs.Digraph.{HasEdge}
 use Rattle.graph_model.specs.FewKept.{edge_to}
-use Rattle.graph_model.specs.LoadEdges.{store_of, next_store, first_store, edges_by_store, edges_of_load}
+use Rattle.graph_model.specs.LoadEdges.{store_of, next_store, edges_by_store, edges_of_load}
 use Rattle.graph_model.specs.StaticGraph.{StaticGraph, IsStaticGraph, few_run_edges}
 use Rattle.graph_model.proofs.Beside.{Is, kept_pair, kept_of_pair, both, both_true}
 use Rattle.graph_model.proofs.Found.{find_below-some, find_below-found}
-use Rattle.graph_model.proofs.LoadEdges.{next_store-some, first_store-some, IsNextStore, IsStoreFor, store_of-value, edges_of_initial, edges_of_value, load_among}
+use Rattle.graph_model.proofs.LoadEdges.{next_store-some, first-some, IsNextStore, IsStoreFor, store_of-value, edges_of_initial, edges_of_value, load_among}
 
 -- nodes by their kinds
 
@@ -108,7 +108,7 @@ next_found p store b lt h beside word =
     (both_true (nat_lt store b) (is_store_at p b && (same_thread p store b && one_word p store b)) (lt_true store b lt)
     (both_true (is_store_at p b) (same_thread p store b && one_word p store b) h (both_true (same_thread p store b) (one_word p store b) beside word)))
 
-first_found : (p : Program) (load b t x : ℕ) → Is p b t (Store x) → is_store_at p b ≡ true → one_word p load b ≡ true → (n : ℕ) × (first_store p load t ≡ Some n) × (n ≤ b)
+first_found : (p : Program) (load b t x : ℕ) → Is p b t (Store x) → is_store_at p b ≡ true → one_word p load b ≡ true → (n : ℕ) × (find (λ n. writes_for p load n && at_node (λ node. node.0 == t) p n) (all_nodes p) ≡ Some n) × (n ≤ b)
 first_found p load b t x is h word =
     find_below-found (λ n. writes_for p load n && at_node (λ node. node.0 == t) p n) (op_count p) b (at_node-below (λ node. is_store node.1) p b h)
     (both_true (writes_for p load b) (at_node (λ node. node.0 == t) p b) (both_true (is_store_at p b) (one_word p load b) h word)
@@ -245,12 +245,12 @@ module _ (s : StaticGraph) (run : List ℕ) (sound : IsStaticGraph s) (inside : 
       let f = first_found s.test a b t is.1 is.2 k word in
       let found = find_below-some (λ n. writes_for s.test a n && at_node (λ node. node.0 == t) s.test n) (op_count s.test) f.0 f.1 in
       let in_thread = (both (writes_for s.test a f.0) (at_node (λ node. node.0 == t) s.test f.0) found.passes).1 in
-      let first = first_store-some s.test a t f.0 f.1 in
+      let first = first-some s.test a t f.0 f.1 in
       let range : t < length s.test.threads = (thread_at-stands s.test b t (ap (option_map (λ (node : ℕ × Op). node.0)) is.2)).in_range in
       let edge : Contains (edges_of_load s.test run a) (a, f.0) =
       subst (λ (x : List (ℕ × ℕ)). Contains x (a, f.0)) (sym (edges_of_initial s.test run a value))
-      (Contains-flat_map (λ thread. edge_to a (first_store s.test a thread)) (nodes_below (length s.test.threads)) t (a, f.0) (has-below (length s.test.threads) t range)
-      (has_edge_to a (first_store s.test a t) f.0 f.1)) in
+      (Contains-flat_map (λ thread. edge_to a (find (λ n. writes_for s.test a n && at_node (λ node. node.0 == thread) s.test n) (all_nodes s.test))) (nodes_below (length s.test.threads)) t (a, f.0) (has-below (length s.test.threads) t range)
+      (has_edge_to a (find (λ n. writes_for s.test a n && at_node (λ node. node.0 == t) s.test n) (all_nodes s.test)) f.0 f.1)) in
       by_store a f.0 b (load_edge a a f.0 load edge) f.2
       (λ before. let same = both_for s.test a f.0 b t is.1 load first in_thread is.2 word in stores_kept s.model s.test f.0 b before first.is_store k same.0 same.1)
 

@@ -1,6 +1,6 @@
 -- The lists of first stores, as they are put together and read.
-use Rattle.std.proofs.Common.{◌≡◌, ◌∙◌, ◌⊎◌, ℕ, suc, ◌+◌, ◌-◌, ◌*◌, ◌<◌, ◌≤◌, List, [], ◌∷◌, ◌++◌, map, length, get_or, take, drop, refl, sym, ap, arith, inl, inr, length-append, append-nil, append_assoc}
-use Rattle.std.specs.Prelude.{Option, Some, None, slice_range}
+use Rattle.std.proofs.Common.{◌≡◌, ◌∙◌, ◌⊎◌, ◌&&◌, ℕ, suc, ◌+◌, ◌-◌, ◌*◌, ◌<◌, ◌≤◌, List, [], ◌∷◌, ◌++◌, map, length, get_or, take, drop, refl, sym, ap, arith, inl, inr, length-append, append-nil, append_assoc}
+use Rattle.std.specs.Prelude.{find, Option, Some, None, slice_range, ◌==◌}
 use Rattle.std.specs.List.{filter_map, flat_map}
 use Rattle.std.proofs.lemmas.Bool.{cases_eq}
 use Rattle.std.proofs.lemmas.List.{get_or_default, drop-append-le, take-append-le, drop_at, take_all, length-drop, get_or_append_left, get_or-append_right}
@@ -8,10 +8,11 @@ use Rattle.std.proofs.lemmas.List.Elements.{filter_map-append}
 use Rattle.orders.specs.Orders.{nodes_below}
 use Rattle.orders.proofs.Below.{length-below}
 use Rattle.test_lang.specs.declared.op.Op.TheVariants.{Load}
-use Rattle.test_lang.specs.Program.{Program, op_at}
+use Rattle.test_lang.specs.Program.{Program, all_nodes, at_node, op_at}
+use Rattle.test_lang.specs.Runs.{writes_for}
 use Rattle.graph_model.specs.FewKept.{edge_to}
 use Rattle.graph_model.specs.FirstLists.{HasFirstLists, first_stores_to}
-use Rattle.graph_model.specs.LoadEdges.{edges_to_first_stores, first_store}
+use Rattle.graph_model.specs.LoadEdges.{edges_to_first_stores}
 use Rattle.graph_model.specs.StoreTables.{first_store_to}
 use Rattle.graph_model.proofs.LoadLists.{first_store_told}
 
@@ -75,7 +76,7 @@ pairs_of load f g same (t ∷ xs) =
     kinds (Some y) = inr (y, refl)
 
 pub pairs_to_firsts : (p : Program) (load word : ℕ) → op_at p load ≡ Some (Load word) → map (λ s. (load, s)) (first_stores_to p word) ≡ edges_to_first_stores p load
-pairs_to_firsts p load word op = pairs_of load (first_store_to p word) (first_store p load) (λ t. first_store_told p load word t op) (nodes_below (length p.threads))
+pairs_to_firsts p load word op = pairs_of load (first_store_to p word) (λ t. find (λ n. writes_for p load n && at_node (λ node. node.0 == t) p n) (all_nodes p)) (λ t. first_store_told p load word t op) (nodes_below (length p.threads))
 
 -- one word more
 module _ (p : Program) (word : ℕ) (starts stores ys : List ℕ) (room : length starts ≡ word + 1) (last : get_or starts word 0 ≡ length stores)

@@ -1,12 +1,12 @@
 -- The few edges of a load are edges of the run.
 use Rattle.std.proofs.Common.{◌≡◌, ℕ, ◌<◌, List, [], ◌∷◌, Bool, true, false, cond, ◌&&◌, length, Contains, inl, inr, arith, refl, sym, ap, subst}
-use Rattle.std.specs.Prelude.{Option, Some, None, ◌==◌, nat_lt}
+use Rattle.std.specs.Prelude.{find, Option, Some, None, ◌==◌, nat_lt}
 use Rattle.std.proofs.lemmas.Bool.{cases_eq, eqb-true, eq-eqb, ne_eqb}
 use Rattle.std.proofs.lemmas.Bool.Decides.{nat_tests}
 use Rattle.orders.specs.Orders.{nodes_below}
 use Rattle.orders.proofs.Members.{Contains-nil, Contains-cons_cases, Contains-flat_map_back}
 use Rattle.test_lang.specs.declared.op.MemModel.{MemModel}
-use Rattle.test_lang.specs.Program.{Program, op_count, at_node}
+use Rattle.test_lang.specs.Program.{Program, all_nodes, op_count, at_node}
 use Rattle.test_lang.specs.Values.{is_store, is_load_at, is_store_at, same_thread, one_word, value_of}
 use Rattle.test_lang.specs.Runs.{value_read, writes_for}
 use Rattle.test_lang.specs.Edges.{Edge}
@@ -14,7 +14,7 @@ use Rattle.test_lang.specs.Edges.Edge.{reads_from, before_later, before_any}
 use Rattle.test_lang.proofs.EdgeTests.{at_node-below}
 use Rattle.test_lang.proofs.Ranks.{one_store}
 use Rattle.graph_model.specs.FewKept.{edge_to}
-use Rattle.graph_model.specs.LoadEdges.{store_of, next_store, first_store, edges_to_first_stores, edges_by_store, edges_of_load}
+use Rattle.graph_model.specs.LoadEdges.{store_of, next_store, edges_to_first_stores, edges_by_store, edges_of_load}
 use Rattle.graph_model.proofs.Beside.{both, both_true}
 use Rattle.graph_model.proofs.Chains.{edge_to_is}
 use Rattle.graph_model.proofs.Found.{find_below-some, find_below-is}
@@ -42,8 +42,8 @@ pub record IsStoreFor (p : Program) (load store : ℕ) : Type 0 where
   pub is_store : is_store_at p store ≡ true
   pub word : one_word p load store ≡ true
 
-pub first_store-some : (p : Program) (load thread first : ℕ) → first_store p load thread ≡ Some first → IsStoreFor p load first
-first_store-some p load thread first e =
+pub first-some : (p : Program) (load thread first : ℕ) → find (λ n. writes_for p load n && at_node (λ node. node.0 == thread) p n) (all_nodes p) ≡ Some first → IsStoreFor p load first
+first-some p load thread first e =
     let f = find_below-some (λ n. writes_for p load n && at_node (λ node. node.0 == thread) p n) (op_count p) first e in
     let a = both (writes_for p load first) (at_node (λ node. node.0 == thread) p first) f.passes in
     let b = both (is_store_at p first) (one_word p load first) a.0 in
@@ -105,9 +105,9 @@ module _ (m : MemModel) (p : Program) (run : List ℕ) (load : ℕ) (is_load_nod
 
   initial_among : value_read p run load ≡ 0 → (a b : ℕ) → Contains (edges_to_first_stores p load) (a, b) → Edge m p run a b
   initial_among initial a b h =
-      let at = Contains-flat_map_back (λ thread. edge_to load (first_store p load thread)) (nodes_below (length p.threads)) (a, b) h in
-      let is = edge_to_is load (first_store p load at.0) a b at.2 in
-      let first = first_store-some p load at.0 b is.1 in
+      let at = Contains-flat_map_back (λ thread. edge_to load (find (λ n. writes_for p load n && at_node (λ node. node.0 == thread) p n) (all_nodes p))) (nodes_below (length p.threads)) (a, b) h in
+      let is = edge_to_is load (find (λ n. writes_for p load n && at_node (λ node. node.0 == at.0) p n) (all_nodes p)) a b at.2 in
+      let first = first-some p load at.0 b is.1 in
       subst (λ (x : ℕ). Edge m p run x b) is.0 (before_any is_load_node initial first.is_store first.word)
 
   pub load_among : (a b : ℕ) → Contains (edges_of_load p run load) (a, b) → Edge m p run a b

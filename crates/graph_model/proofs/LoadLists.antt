@@ -1,15 +1,15 @@
 -- The list of a load's edges, as it is put together.
 use Rattle.std.proofs.Common.{◌≡◌, ℕ, ◌≤◌, List, Bool, true, ◌&&◌, get_or, arith, refl, sym, ap, subst, ◌∙◌}
-use Rattle.std.specs.Prelude.{Option, Some, None, slice_get, ◌==◌}
+use Rattle.std.specs.Prelude.{Option, Some, None, find, slice_get, ◌==◌}
 use Rattle.std.specs.Option.{option_map}
 use Rattle.std.proofs.lemmas.Bool.Decides.{nat_tests}
 use Rattle.std.proofs.lemmas.Option.{get_or_from_slice_get}
 use Rattle.test_lang.specs.declared.op.Op.{Op}
 use Rattle.test_lang.specs.declared.op.Op.TheVariants.{Load, Store, Fence}
-use Rattle.test_lang.specs.Program.{Program, nodes, op_at, op_count, at_node, passes, passes_after}
+use Rattle.test_lang.specs.Program.{Program, all_nodes, nodes, op_at, op_count, at_node, passes, passes_after}
 use Rattle.test_lang.specs.Values.{is_store, is_store_to, same_word, is_store_at, is_load_at, value_of, rank_of, load_nodes, store_count}
 use Rattle.test_lang.specs.Runs.{value_read, writes_for, IsInside}
-use Rattle.graph_model.specs.LoadEdges.{first_store, store_of, edges_to_first_stores, edges_by_store, edges_of_load}
+use Rattle.graph_model.specs.LoadEdges.{store_of, edges_to_first_stores, edges_by_store, edges_of_load}
 use Rattle.graph_model.specs.StoreTables.{is_thread_store, first_store_to}
 use Rattle.graph_model.proofs.Found.{find-same}
 use Rattle.graph_model.proofs.LaterStores.{value_read-le}
@@ -36,7 +36,7 @@ store_to_from (Some l) (Some y) x t e =
     stores_of x (Store word) = refl
     stores_of x Fence = refl
 
-pub first_store_told : (p : Program) (load x t : ℕ) → op_at p load ≡ Some (Load x) → first_store_to p x t ≡ first_store p load t
+pub first_store_told : (p : Program) (load x t : ℕ) → op_at p load ≡ Some (Load x) → first_store_to p x t ≡ find (λ n. writes_for p load n && at_node (λ node. node.0 == t) p n) (all_nodes p)
 first_store_told p load x t e =
     find-same (is_thread_store p x t) (λ n. writes_for p load n && at_node (λ node. node.0 == t) p n)
     (λ n. store_to_from (slice_get (nodes p) load) (slice_get (nodes p) n) x t e) (op_count p)

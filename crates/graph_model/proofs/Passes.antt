@@ -12,7 +12,7 @@ use Rattle.digraph.specs.Digraph.{Digraph}
 use Rattle.graph_model.specs.declared.nearest.Nearest.{Nearest}
 use Rattle.graph_model.specs.FirstLast.{first_from}
 use Rattle.graph_model.specs.FewKept.{edges_into, edges_onward, with_edges}
-use Rattle.graph_model.specs.NearestNodes.{Tells, with_node, last_node, first_node}
+use Rattle.graph_model.specs.NearestNodes.{Tells, with_node, last_node, first_passing}
 use Rattle.graph_model.proofs.Sizes.{length-into, length-onward}
 
 -- the edges so far
@@ -96,13 +96,13 @@ tells_last p n op table e t =
     (tells_same (with_node (last_node p n) n op) (last_node p (suc n)) table (λ test. ap (λ (b : Bool). cond b (Some n) (last_node p n test)) (test_from test (slice_get (nodes p) n) op e)) t)
 
 pub tells_first : (p : Program) (end : ℕ) (op : Op) (table : Nearest) → 0 < end → end ≤ op_count p → op_at p (end - 1) ≡ Some op →
-    Tells (with_node (first_node p (op_count p - end)) (end - 1) op) table → Tells (first_node p (op_count p - (end - 1))) table
+    Tells (with_node (first_passing p (op_count p - end)) (end - 1) op) table → Tells (first_passing p (op_count p - (end - 1))) table
 tells_first p end op table some within e t =
     let next : suc (op_count p - end) ≡ op_count p - (end - 1) = omega (arith, some, within) in
     let from : op_count p - suc (op_count p - end) ≡ end - 1 = omega (arith, some, within) in
     let behind : op_count p - (op_count p - end) ≡ suc (end - 1) = omega (arith, some, within) in
-    subst (λ (k : ℕ). Tells (first_node p k) table) next
-    (tells_same (with_node (first_node p (op_count p - end)) (end - 1) op) (first_node p (suc (op_count p - end))) table (λ test.
-    ap (λ (b : Bool). cond b (Some (end - 1)) (first_node p (op_count p - end) test)) (test_from test (slice_get (nodes p) (end - 1)) op e)
+    subst (λ (k : ℕ). Tells (first_passing p k) table) next
+    (tells_same (with_node (first_passing p (op_count p - end)) (end - 1) op) (first_passing p (suc (op_count p - end))) table (λ test.
+    ap (λ (b : Bool). cond b (Some (end - 1)) (first_passing p (op_count p - end) test)) (test_from test (slice_get (nodes p) (end - 1)) op e)
     ∙ ap (λ (c : ℕ). cond (at_node (λ node. test node.1) p (end - 1)) (Some (end - 1)) (first_from (at_node (λ node. test node.1) p) (op_count p - end) c)) behind
     ∙ ap (λ (c : ℕ). cond (at_node (λ node. test node.1) p c) (Some c) (first_from (at_node (λ node. test node.1) p) (op_count p - end) (suc c))) (sym from)) t)

@@ -12,7 +12,7 @@ use Rattle.graph_model.specs.StoreTables.{HasNextStores}
 use Rattle.graph_model.specs.FirstLists.{HasFirstLists}
 use Rattle.graph_model.specs.declared.first_stores.FirstStores.{FirstStores}
 use Rattle.graph_model.specs.declared.word_loads.WordLoads.{WordLoads}
-use Rattle.graph_model.specs.WordLoads.{TellsLoads}
+use Rattle.graph_model.specs.WordLoads.{TellsWordLoads}
 use Rattle.graph_model.specs.Tabled.{IsTabled}
 use Rattle.graph_model.proofs.Chains.{few_kept-among, few_kept-reaching}
 use Rattle.graph_model.proofs.Sizes.{length-few_kept}
@@ -31,10 +31,10 @@ static_of m p copy g same nodes edges =
     subst (λ (q : Program). IsStaticGraph (record { test = q; model = m; graph = g })) (sym same) sound
 
 pub tabled_of : (m : MemModel) (p copy : Program) (g : Digraph) (nexts : List (Option ℕ)) (firsts : FirstStores) (loads : WordLoads) → copy ≡ p → g.nodes ≡ op_count p → g.edges ≡ few_kept m p →
-    HasNextStores p nexts → HasFirstLists p firsts.starts.items firsts.stores.items → TellsLoads p loads → IsTabled (record { test = copy; model = m; graph = g }) nexts firsts loads
+    HasNextStores p nexts → HasFirstLists p firsts.starts.items firsts.stores.items → TellsWordLoads p loads → IsTabled (record { test = copy; model = m; graph = g }) nexts firsts loads
 tabled_of m p copy g nexts firsts loads same nodes edges n f l = record {
   sound = static_of m p copy g same nodes edges;
   nexts = subst (λ (q : Program). HasNextStores q nexts) (sym same) n;
   firsts = subst (λ (q : Program). HasFirstLists q firsts.starts.items firsts.stores.items) (sym same) f;
-  loads = subst (λ (q : Program). TellsLoads q loads) (sym same) l;
+  loads = subst (λ (q : Program). TellsWordLoads q loads) (sym same) l;
 }

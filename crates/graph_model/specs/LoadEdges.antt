@@ -15,13 +15,9 @@ store_of p value = find (λ n. is_store_at p n && (value_of p n == value)) (all_
 abbrev pub next_store : Program → ℕ → Option ℕ
 next_store p store = find (λ n. nat_lt store n && (is_store_at p n && (same_thread p store n && one_word p store n))) (all_nodes p)
 
--- a thread's first store to the load's word
-abbrev pub first_store : Program → ℕ → ℕ → Option ℕ
-first_store p load thread = find (λ n. writes_for p load n && at_node (λ node. node.0 == thread) p n) (all_nodes p)
-
 -- where the load gives the initial value: an edge to each thread's first store to its word, by rising thread
 abbrev pub edges_to_first_stores : Program → ℕ → List (ℕ × ℕ)
-edges_to_first_stores p load = flat_map (λ thread. edge_to load (first_store p load thread)) (nodes_below (length p.threads))
+edges_to_first_stores p load = flat_map (λ thread. edge_to load (find (λ n. writes_for p load n && at_node (λ node. node.0 == thread) p n) (all_nodes p))) (nodes_below (length p.threads))
 
 -- where it gives a store of another thread: an edge from it, and then an edge to the first store after it in its thread to its word; none where it gives a
 -- store of its own thread

@@ -25,5 +25,5 @@ abbrev pub last_node : Program → ℕ → (Op → Bool) → Option ℕ
 last_node p n test = last_below (at_node (λ node. test node.1) p) n
 
 -- the first of the last k nodes that passes it
-abbrev pub first_node : Program → ℕ → (Op → Bool) → Option ℕ
-first_node p k test = first_from (at_node (λ node. test node.1) p) k (op_count p - k)
+abbrev pub first_passing : Program → ℕ → (Op → Bool) → Option ℕ
+first_passing p k test = first_from (at_node (λ node. test node.1) p) k (op_count p - k)

@@ -12,7 +12,7 @@ abbrev pub last_load : Program → ℕ → Op → Option ℕ
 last_load p n op = last_node p n (is_kind LoadOfWord op)
 
 -- The table tells the last load of each word, and the last one before each node.
-pub record TellsLoads (p : Program) (table : WordLoads) : Type 0 where
+pub record TellsWordLoads (p : Program) (table : WordLoads) : Type 0 where
   pub words : length table.last.loads.items ≡ p.words
   pub last : Tells (last_node p (op_count p)) table.last
   pub room : length table.before.items ≡ op_count p

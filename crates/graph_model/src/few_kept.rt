@@ -5,7 +5,7 @@ ghost use Rattle.std.specs.Option.{ForSome};
 ghost use Rattle.orders.specs.Orders.{nodes_below};
 ghost use Rattle.test_lang.specs.Program.{op_count, op_at, HasWord};
 ghost use Rattle.graph_model.specs.FewKept.{edges_into, edges_onward, few_kept, in_thread, last_of_kind, next_of_kind, with_edges};
-ghost use Rattle.graph_model.specs.NearestNodes.{Tells, last_node, first_node};
+ghost use Rattle.graph_model.specs.NearestNodes.{Tells, last_node, first_passing};
 
 use crate::kinds::{Kind, kinds_after, kinds_before};
 use crate::nearest::Nearest;
@@ -50,7 +50,7 @@ pub(crate) fn next_of_kind(
     requires op { op_at test.now node ≡ Some op }
     requires word { HasWord test.now op }
     requires words { length nearest.now.loads.items ≡ test.now.words }
-    requires told { Tells (first_node test.now (op_count test.now - suc node)) nearest.now }
+    requires told { Tells (first_passing test.now (op_count test.now - suc node)) nearest.now }
     requires node { node < op_count test.now }
     ensures next { result ≡ next_of_kind kind test.now node }
     ensures below { IfSome result (λ k. k < op_count test.now) }
@@ -82,7 +82,7 @@ fn add_onward(test: &Test, model: MemModel, nearest: &Nearest, node: u32, op: Op
     requires op { op_at test.now node ≡ Some op }
     requires word { HasWord test.now op }
     requires words { length nearest.now.loads.items ≡ test.now.words }
-    requires told { Tells (first_node test.now (op_count test.now - suc node)) nearest.now }
+    requires told { Tells (first_passing test.now (op_count test.now - suc node)) nearest.now }
     requires node { node < op_count test.now }
     requires nodes { graph.old.nodes ≡ op_count test.now }
     requires room { length graph.old.edges + 1 ≤ graph.old.room }

@@ -8,7 +8,7 @@ ghost use Rattle.test_lang.specs.Program.{op_at, op_count};
 ghost use Rattle.test_lang.specs.Runs.{IsInside};
 ghost use Rattle.test_lang.specs.Values.{is_load_at, is_store, is_store_at};
 ghost use Rattle.digraph.specs.Marks.{MarksSources, MarksWhere};
-ghost use Rattle.graph_model.specs.WordLoads.{TellsLoads};
+ghost use Rattle.graph_model.specs.WordLoads.{TellsWordLoads};
 
 use crate::kept_order::kept;
 use crate::kinds::Kind;
@@ -82,7 +82,7 @@ fn mark_loads_before(
     marks: &mut [u32],
 )
     requires inside { IsInside test.now run.now }
-    requires loads { TellsLoads test.now loads.now }
+    requires loads { TellsWordLoads test.now loads.now }
     requires store { IsTrue (is_store_at test.now store) }
     requires node { store < op_count test.now }
     requires marks { length marks.old ≡ op_count test.now }
@@ -99,7 +99,7 @@ fn mark_loads_before(
 /// Gives the mark to the nodes from which an edge leads to a node because of what loads give.
 fn mark_by_loads(test: &Test, run: &[u32], loads: &WordLoads, to: u32, mark: u32, marks: &mut [u32])
     requires inside { IsInside test.now run.now }
-    requires loads { TellsLoads test.now loads.now }
+    requires loads { TellsWordLoads test.now loads.now }
     requires to { to < op_count test.now }
     requires marks { length marks.old ≡ op_count test.now }
     ensures { MarksWhere (λ a. IsTrue (is_reads_from test.now run.now a to
@@ -123,7 +123,7 @@ pub(crate) fn mark_sources(
     marks: &mut [u32],
 )
     requires inside { IsInside test.now run.now }
-    requires loads { TellsLoads test.now loads.now }
+    requires loads { TellsWordLoads test.now loads.now }
     requires to { to < op_count test.now }
     requires marks { length marks.old ≡ op_count test.now }
     ensures { MarksSources (Edge model test.now run.now) to mark marks.old marks.new }

@@ -16,11 +16,11 @@ pub(crate) struct WordLoads {
 }
 
 impl WordLoads {
-    ghost use Rattle.graph_model.specs.WordLoads.{TellsLoads};
+    ghost use Rattle.graph_model.specs.WordLoads.{TellsWordLoads};
 
     /// The loads of the words of a test.
     pub(crate) fn of(alloc: Global, test: &Test) -> Result<WordLoads, AllocError>
-        ensures { IfOk result (TellsLoads test.now) }
+        ensures { IfOk result (TellsWordLoads test.now) }
     {
         let mut before = vec![in alloc; None; test.ops() as usize]?;
         let mut last = Nearest::new(alloc, test.words())?;

@@ -22,14 +22,14 @@ pub struct Full<'a> {
 
 impl<'a> Model for Full<'a> {
     ghost use Rattle.graph_model.specs.RunGraph.{RunGraph};
-    ghost use Rattle.graph_model.specs.WordLoads.{TellsLoads};
+    ghost use Rattle.graph_model.specs.WordLoads.{TellsWordLoads};
     ghost use Rattle.test_lang.specs.Runs.{IsInside};
 
     ghost Value = { RunGraph };
 
     ghost view = { λ f. record { test = f.test.now; model = f.model; run = f.run.now } };
 
-    ghost invariant = { λ f. IsInside f.test.now f.run.now × TellsLoads f.test.now f.loads.now };
+    ghost invariant = { λ f. IsInside f.test.now f.run.now × TellsWordLoads f.test.now f.loads.now };
 }
 
 impl Static {

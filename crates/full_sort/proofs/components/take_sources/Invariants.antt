@@ -1,8 +1,9 @@
-use Rattle.std.proofs.Common.{◌≡◌, ◌≢◌, ◌≤◌, ℕ, length, get_or, take}
-use Rattle.digraph.specs.Digraph.{HasEdge, source_of, target_of}
+use Rattle.std.proofs.Common.{◌≡◌, ◌≢◌, ◌≤◌, ◌+◌, ℕ, length, get_or, take}
+use Rattle.digraph.specs.Digraph.{HasEdge, in_degree, source_of, target_of}
 use Rattle.full_sort.specs.Components.{GivesNumber}
 use Rattle.full_sort.specs.Finishing.{IsListOf}
 use Rattle.full_sort.proofs.EdgeWalks.{IsWalkOver}
+use Rattle.full_sort.proofs.Ticks.{ahead}
 use Rattle.full_sort.proofs.Walk.{walk_start}
 use Rattle.full_sort.proofs.components.take_sources.Given as goal
 
@@ -14,7 +15,7 @@ invariant-loop-next g l = record {
   more : l.count ≤ l.taken;
   front : take l.count l.queue ≡ take l.count l.fn.queue;
   given : GivesNumber (λ (t : ℕ). HasEdge l.graph.edges t l.node) l.number l.fn.numbers l.numbers;
-  later : l.fn.steps ≤ l.steps;
+  ticked : l.steps + ahead (λ x. x.1) l.graph.edges l.node l.next ≡ l.fn.steps + in_degree l.graph.edges l.node;
 }
 
 abbrev pub decreases-loop-next : goal.decreases-loop-next

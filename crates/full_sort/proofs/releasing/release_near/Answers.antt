@@ -3,7 +3,7 @@ use Rattle.std.proofs.Common.{◌≡◌, ◌∙◌, ℕ, ◌+◌, ◌-◌, ◌<�
 use Rattle.std.proofs.lemmas.Bool.{cases_eq}
 use Rattle.std.proofs.lemmas.List.{length-set, take_all}
 use Rattle.digraph.specs.Digraph.{targets_from}
-use Rattle.full_sort.specs.Ready.{IsHeld, count_of}
+use Rattle.full_sort.specs.Ready.{IsHeld, times_in}
 use Rattle.full_sort.proofs.Releases.{gained-step, list-less, list-some, near-count, near-inside, targets-inside}
 use Rattle.full_sort.proofs.releasing.release_near.Goals as goal
 
@@ -28,7 +28,7 @@ least-set w0 i ws x n inside le = elim (cases_eq n x) [
 
 -- each target at hand waits for an edge, and the place of no node has enough to spare
 near-some : (items : List ℕ) (n i : ℕ) (w0 ws : List ℕ) → i < length items → i < 3 → get_or items i 0 ≤ n → length ws ≡ n + 1 →
-    ((t : ℕ) → t < n → get_or ws t 0 + count_of (take i items) t ≡ get_or w0 t 0) → ((t : ℕ) → t < n → count_of items t ≤ get_or w0 t 0) →
+    ((t : ℕ) → t < n → get_or ws t 0 + times_in (take i items) t ≡ get_or w0 t 0) → ((t : ℕ) → t < n → times_in items t ≤ get_or w0 t 0) →
     get_or w0 n 0 ≤ get_or ws n 0 + i → 4 ≤ get_or w0 n 0 → 1 ≤ get_or ws (get_or items i 0) 0
 near-some items n i w0 ws lt low inside whole counted enough spare some = elim (cases_eq (get_or items i 0) n) [
   | inl same ↦
@@ -132,7 +132,7 @@ returns-clause-less g c = λ t lt.
     let n : ℕ = c.args.graph.now.nodes in
     let same = near-count (targets_from c.args.graph.now.edges c.args.node) c.near_targets-target-items.result.now n c.near_targets-target-items.ensures.long c.near_targets-target-items.ensures.at t lt in
     let so_far = c.loop-target.invariant.counted t lt in
-    let all = ap (λ (xs : List ℕ). count_of xs t) (take_all c.loop-target.target-index c.near_targets-target-items.result.now (omega arith)) in
+    let all = ap (λ (xs : List ℕ). times_in xs t) (take_all c.loop-target.target-index c.near_targets-target-items.result.now (omega arith)) in
     omega (arith, same, so_far, all)
 
 pub returns-clause-spare : goal.returns-clause-spare
