@@ -35,7 +35,7 @@ const STORE_BUFFERING: Case = Case {
     ],
 };
 
-const CASES: [Case; 8] = [
+const CASES: [Case; 9] = [
     STORE_BUFFERING,
     // No load.
     Case {
@@ -71,6 +71,13 @@ const CASES: [Case; 8] = [
             (&[(1, 64), (0, 1), (1, 1)], &[u64::MAX, 1]),
             (&[(0, 63), (1, 1), (0, 2)], &[1 << 63, 0]),
         ],
+    },
+    // So does a load of one candidate before a product of 2^64. Its inverse has to be exact, or the word loses 1.
+    Case {
+        words: 2,
+        threads: &[&[(ST_0, 1)], &[(LD_1, 1), (LD_0, 64)]],
+        limits: &[1 << 64],
+        runs: &[(&[(0, 1), (1, 64)], &[u64::MAX])],
     },
     // A product of 2^63 stays open; three candidates more would pass 2^64.
     Case {
