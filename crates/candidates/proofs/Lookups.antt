@@ -22,7 +22,7 @@ use Rattle.candidates.specs.Stores.{stores_to}
 use Rattle.candidates.specs.declared.store_lists.StoreRow.{StoreRow}
 use Rattle.candidates.specs.Reading.{table_place}
 use Rattle.candidates.specs.Places.{found_place}
-use Rattle.candidates.specs.Tables.{PlacesValue, StandsBehind, Tabulates, TellsCandidates}
+use Rattle.candidates.specs.Tables.{PlacesValue, StandsBehind, TabulatesCandidates, TellsCandidates}
 use Rattle.candidates.specs.ByRank.{FindsPlace, load_at}
 
 -- reads of parts of a list
@@ -372,10 +372,10 @@ finds_no_row p load row value t past =
 -- by the tables
 
 -- the tables of the test that contracts see
-pub tables_of : (q p : Program) (loads : List LoadRow) (stores : List StoreRow) (table : List ℕ) → q ≡ p → Tabulates q loads stores table → Tabulates p loads stores table
-tables_of q p loads stores table same t = subst (λ r. Tabulates r loads stores table) same t
+pub tables_of : (q p : Program) (loads : List LoadRow) (stores : List StoreRow) (table : List ℕ) → q ≡ p → TabulatesCandidates q loads stores table → TabulatesCandidates p loads stores table
+tables_of q p loads stores table same t = subst (λ r. TabulatesCandidates r loads stores table) same t
 
-module _ (p : Program) (loads : List LoadRow) (stores : List StoreRow) (table : List ℕ) (t : Tabulates p loads stores table) where
+module _ (p : Program) (loads : List LoadRow) (stores : List StoreRow) (table : List ℕ) (t : TabulatesCandidates p loads stores table) where
   pub row_told : (rank : ℕ) (row : LoadRow) → rank < load_count p → row ≡ get_or loads rank row → TellsCandidates p (load_at p rank) row
   row_told rank row lt e = let one = t.one_load_each in t.loads_tell rank row (slice_get_read loads (load_count p) rank row (sym one) lt e)
 
@@ -393,13 +393,13 @@ module _ (p : Program) (loads : List LoadRow) (stores : List StoreRow) (table : 
   }
 
 -- The place of a value, from the rows.
-pub finds_value : (p : Program) (loads : List LoadRow) (stores : List StoreRow) (table : List ℕ) (t : Tabulates p loads stores table) (rank : ℕ) (row : LoadRow) (value : ℕ) (store : StoreRow) → rank < load_count p
+pub finds_value : (p : Program) (loads : List LoadRow) (stores : List StoreRow) (table : List ℕ) (t : TabulatesCandidates p loads stores table) (rank : ℕ) (row : LoadRow) (value : ℕ) (store : StoreRow) → rank < load_count p
     → row ≡ get_or loads rank row → slice_get stores value ≡ Some store → FindsPlace (candidates p (load_at p rank)) value (found_place row value store)
 finds_value p loads stores table t rank row value store lt e is =
     finds_by_rows p (load_at p rank) row value store (row_told p loads stores table t rank row lt e) (value_told p loads stores table t value store is)
 
 -- No row, no candidate.
-pub finds_nothing : (p : Program) (loads : List LoadRow) (stores : List StoreRow) (table : List ℕ) (t : Tabulates p loads stores table) (rank value : ℕ) → rank < load_count p
+pub finds_nothing : (p : Program) (loads : List LoadRow) (stores : List StoreRow) (table : List ℕ) (t : TabulatesCandidates p loads stores table) (rank value : ℕ) → rank < load_count p
     → slice_get stores value ≡ None → FindsPlace (candidates p (load_at p rank)) value None
 finds_nothing p loads stores table t rank value lt e =
     let one = t.one_load_each in

@@ -17,7 +17,7 @@ use Rattle.candidates.specs.declared.load_rows.LoadRow.{LoadRow}
 use Rattle.candidates.specs.declared.load_rows.OwnStores.{OwnStores}
 use Rattle.candidates.specs.ByRank.{load_at}
 use Rattle.candidates.specs.Stores.{stores_before, stores_to, last_own}
-use Rattle.candidates.specs.Tables.{StandsBehind, TellsBlock, TellsBlocks, TellsCandidates, TellsLoads}
+use Rattle.candidates.specs.Tables.{StandsBehind, TellsBlock, TellsBlocks, TellsCandidates, TellsLoadRows}
 use Rattle.candidates.proofs.LoadCandidates.{base-is, others-block, own_block, count-block, last_own-first, last_own-same, last_own-store}
 use Rattle.candidates.proofs.StoreSteps.{no_store_to, stores_before_same, stores_before_push}
 
@@ -139,7 +139,7 @@ module _ (p : Program) (t n : ℕ) where
 
   -- rows
 
-  pub loads_other : (op : Op) (table : List ℕ) (rows : List LoadRow) → slice_get (nodes p) n ≡ Some (t, op) → is_load op ≡ false → TellsLoads p table n rows → TellsLoads p table (n + 1) rows
+  pub loads_other : (op : Op) (table : List ℕ) (rows : List LoadRow) → slice_get (nodes p) n ≡ Some (t, op) → is_load op ≡ false → TellsLoadRows p table n rows → TellsLoadRows p table (n + 1) rows
   loads_other op table rows e fails l = record {
     one_row_each =
         let one = l.one_row_each in
@@ -194,7 +194,7 @@ module _ (p : Program) (t n : ℕ) where
       subst (λ (w : ℕ). StandsBehind table row.front (stores_to p w)) (sym i.word_is) (subst (λ (f : ℕ). StandsBehind table f (stores_to p x)) (sym i.front_is) h)
 
   pub loads_load : (x front : ℕ) (table : List ℕ) (stores : OwnStores) (row : LoadRow) (rows : List LoadRow) → slice_get (nodes p) n ≡ Some (t, Load x) → x < p.words
-      → TellsBlock p t x (first_node p t + thread_length p t) n stores → StandsBehind table front (stores_to p x) → IsRow x front stores row → TellsLoads p table n rows → TellsLoads p table (n + 1) (rows ++ row ∷ [])
+      → TellsBlock p t x (first_node p t + thread_length p t) n stores → StandsBehind table front (stores_to p x) → IsRow x front stores row → TellsLoadRows p table n rows → TellsLoadRows p table (n + 1) (rows ++ row ∷ [])
   loads_load x front table stores row rows e lt b h i l =
       let one = l.one_row_each in
       record {
@@ -244,7 +244,7 @@ counts_none p own none to_0 e = record {
       ap (λ (s : OwnStores). s.to) same ∙ to_0;
 }
 
-pub loads_none : (p : Program) (table : List ℕ) (rows : List LoadRow) → rows ≡ [] → TellsLoads p table 0 rows
+pub loads_none : (p : Program) (table : List ℕ) (rows : List LoadRow) → rows ≡ [] → TellsLoadRows p table 0 rows
 loads_none p table rows e = record {
   one_row_each = ap length e;
   rows_tell = λ rank row is. let none = ap (λ xs. slice_get xs rank) e in absurd (cc (is, none));

@@ -64,13 +64,13 @@ pub record TellsCandidates (p : Program) (load : ℕ) (row : LoadRow) : Type 0 w
   pub count_is : row.count ≡ length (candidates p load)
 
 -- The rows tell the candidates of the loads before node n, and where the stores to their words stand in the table.
-pub record TellsLoads (p : Program) (table : List ℕ) (n : ℕ) (rows : List LoadRow) : Type 0 where
+pub record TellsLoadRows (p : Program) (table : List ℕ) (n : ℕ) (rows : List LoadRow) : Type 0 where
   pub one_row_each : length rows ≡ count_by (λ node. is_load node.1) (take n (nodes p))
   pub rows_tell : (rank : ℕ) (row : LoadRow) → slice_get rows rank ≡ Some row → TellsCandidates p (load_at p rank) row
   pub behind : (rank : ℕ) (row : LoadRow) → slice_get rows rank ≡ Some row → StandsBehind table row.front (stores_to p row.word)
 
 -- The tables tell the candidates of each load.
-pub record Tabulates (p : Program) (loads : List LoadRow) (stores : List StoreRow) (table : List ℕ) : Type 0 where
+pub record TabulatesCandidates (p : Program) (loads : List LoadRow) (stores : List StoreRow) (table : List ℕ) : Type 0 where
   pub limits : IsWithinLimits p
   pub one_row_each : length stores ≡ store_count p + 1
   pub stores_placed : PlacesStores p (op_count p) stores

@@ -28,14 +28,14 @@ pub struct Candidates {
 impl Model for Candidates {
     ghost use Rattle.test_lang.specs.Program.{Program};
     ghost use Rattle.candidates.specs.Places.{TabulatesPlaces};
-    ghost use Rattle.candidates.specs.Tables.{Tabulates};
+    ghost use Rattle.candidates.specs.Tables.{TabulatesCandidates};
 
     ghost Value = { Program };
 
     ghost view = { λ c. c.test };
 
     ghost invariant = { λ c.
-        Tabulates c.test c.loads.items c.stores.rows.items c.stores.values.items
+        TabulatesCandidates c.test c.loads.items c.stores.rows.items c.stores.values.items
         × TabulatesPlaces c.loads.items c.stores.rows.items c.places.items };
 }
 

@@ -1,7 +1,7 @@
 //! What the candidates of each load are, told by a few numbers.
 ghost use Rattle.std.specs.Prelude.{◌≡◌, ◌+◌, ◌-◌, ◌^◌, ◌<◌, ◌≤◌, [], ◌∷◌, IfOk, OnOk, length, map};
 ghost use Rattle.candidates.specs.Reading.{table_place};
-ghost use Rattle.candidates.specs.Tables.{TellsBlocks, TellsLoads, TellsWords};
+ghost use Rattle.candidates.specs.Tables.{TellsBlocks, TellsLoadRows, TellsWords};
 ghost use Rattle.test_lang.specs.Program.{first_node, op_count, thread_length};
 
 use crate::store_table::{StoreTable, WordRow};
@@ -120,12 +120,12 @@ fn push_loads(
     requires words { TellsWords test.now stores.now.values.items stores.now.words.items }
     requires blocks { let first = first_node test.now thread in
         TellsBlocks test.now thread (first + thread_length test.now thread) first own.old }
-    requires loads { TellsLoads test.now stores.now.values.items
+    requires loads { TellsLoadRows test.now stores.now.values.items
         (first_node test.now thread) rows.old.items }
     ensures blocks { let end = first_node test.now thread + thread_length test.now thread in
         OnOk result (TellsBlocks test.now thread end end own.new) }
     ensures loads { let end = first_node test.now thread + thread_length test.now thread in
-        OnOk result (TellsLoads test.now stores.now.values.items end rows.new.items) }
+        OnOk result (TellsLoadRows test.now stores.now.values.items end rows.new.items) }
 {
     let first = test.first_of(thread);
     for node in first..first + test.len_of(thread) {
@@ -149,7 +149,7 @@ pub(crate) fn list_loads(
 ) -> Result<Vec<LoadRow>, AllocError>
     requires { TellsWords test.now stores.now.values.items stores.now.words.items }
     ensures { IfOk result (λ loads.
-        TellsLoads test.now stores.now.values.items (op_count test.now) loads.items) }
+        TellsLoadRows test.now stores.now.values.items (op_count test.now) loads.items) }
 {
     let none = OwnStores {
         from: 0,

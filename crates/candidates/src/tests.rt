@@ -1,8 +1,7 @@
 //! Tests of every candidate, and of every value that is none, of a few tests.
 
 use crate::Candidates;
-use std::alloc::Global;
-use std::process::Abort;
+use std::alloc::{AllocError, Global};
 use std::test::Fail;
 use test_lang::op::Op;
 use test_lang::test::Test;
@@ -89,41 +88,116 @@ const CASES: [Case; 8] = [
     },
 ];
 
-fn build(rt: &impl Abort, alloc: Global, words: u32, threads: &[&[Op]]) -> Result<Test, Fail> {
-    assert!(rt; 1 <= words && words <= 256);
-    let mut test = Test::new(alloc, words);
+/// A test of these threads, if it is within the limits.
+fn build(alloc: Global, words: u32, threads: &[&[Op]]) -> Result<Test, AllocError> {
+    let mut test = new_test(alloc, words)?;
     for ops in threads {
-        assert!(rt; test.threads() < 16);
-        test.add_thread()?;
-        for op in ops.iter() {
-            assert!(rt; test.threads() > 0 && test.ops() < 2048);
-            assert!(rt; test.has_word(*op));
-            test.add_op(*op)?;
-        }
+        add_thread(&mut test, ops)?;
     }
     Ok(test)
 }
 
-/// Holds what the tables answer of one load against the list of its candidates.
-fn check_load(rt: &impl Abort, candidates: &Candidates, rank: u32, list: &[u32], values: u32) {
-    assert!(rt; rank < candidates.test().loads());
-    let count = candidates.count(rank);
-    assert_eq!(rt; count as usize, list.len());
-    for place in 0..count {
-        assert_eq!(rt; candidates.at(rank, place), list[place as usize]);
+fn new_test(alloc: Global, words: u32) -> Result<Test, AllocError> {
+    if 1 <= words && words <= 256 {
+        return Ok(Test::new(alloc, words));
     }
+    Err(AllocError)
+}
+
+fn add_thread(test: &mut Test, ops: &[Op]) -> Result<(), AllocError> {
+    if 16 <= test.threads() {
+        return Err(AllocError);
+    }
+    test.add_thread()?;
+    for op in ops {
+        add_op(test, *op)?;
+    }
+    Ok(())
+}
+
+fn add_op(test: &mut Test, op: Op) -> Result<(), AllocError> {
+    if test.threads() > 0 && test.ops() < 2048 && test.has_word(op) {
+        return test.add_op(op);
+    }
+    Err(AllocError)
+}
+
+fn loads_of(candidates: &Candidates) -> usize {
+    candidates.test().loads() as usize
+}
+
+/// The candidates of a load, if the test has it.
+fn candidates_of(
+    alloc: Global,
+    candidates: &Candidates,
+    rank: usize,
+) -> Result<Vec<u32>, AllocError> {
+    let mut all = Vec::new(alloc);
+    if rank < candidates.test().loads() as usize {
+        let rank = rank as u32;
+        for place in 0..candidates.count(rank) {
+            all.push(candidates.at(rank, place))?;
+        }
+    }
+    Ok(all)
+}
+
+/// The place of a value among the candidates of a load; of a load that isn't there a place that no list has.
+fn index_of(candidates: &Candidates, rank: usize, value: u32) -> Option<usize> {
+    if rank < candidates.test().loads() as usize {
+        let place = candidates.index(rank as u32, value)?;
+        return Some(place as usize);
+    }
+    Some(usize::MAX)
+}
+
+/// The same by the other call.
+fn place_of(candidates: &Candidates, rank: usize, value: u32) -> Option<usize> {
+    if rank < candidates.test().loads() as usize {
+        let (place, is_candidate) = candidates.place_if_any(rank as u32, value);
+        return if is_candidate {
+            Some(place as usize)
+        } else {
+            None
+        };
+    }
+    Some(usize::MAX)
+}
+
+/// The rank of the first load outside; of a run of another length one that no test has.
+fn first_outside(candidates: &Candidates, run: &[u32]) -> Option<usize> {
+    if run.len() == candidates.test().loads() as usize {
+        let rank = candidates.first_outside(run)?;
+        return Some(rank as usize);
+    }
+    Some(usize::MAX)
+}
+
+fn place_in(list: &[u32], value: u32) -> Option<usize> {
+    list.iter().position(|candidate| *candidate == value)
+}
+
+/// Whether the tables find a value where it stands in the list of the load's candidates, if at all.
+fn finds(candidates: &Candidates, rank: usize, value: u32, list: &[u32]) -> bool {
+    let place = place_in(list, value);
+    index_of(candidates, rank, value) == place && place_of(candidates, rank, value) == place
+}
+
+/// Whether what the tables answer of one load goes with the list of its candidates.
+fn answers_load(
+    alloc: Global,
+    candidates: &Candidates,
+    rank: usize,
+    list: &[u32],
+    values: u32,
+) -> Result<bool, AllocError> {
     for value in 0..values {
-        let place = list.iter().position(|candidate| *candidate == value);
-        let found = candidates.index(rank, value);
-        assert_eq!(rt;
-            found.map(|place| place as usize),
-            place,
-            "rank {rank} value {value}"
-        );
-        let (at, is_candidate) = candidates.place_if_any(rank, value);
-        assert_eq!(rt; is_candidate.then_some(at), found);
+        if !finds(candidates, rank, value, list) {
+            return Ok(false);
+        }
     }
-    assert_eq!(rt; candidates.index(rank, u32::MAX), None);
+    let all = candidates_of(alloc, candidates, rank)?;
+    Ok(all.as_slice() == list && finds(candidates, rank, u32::MAX, list))
 }
 
 /// The first value that isn't in the list.
@@ -136,55 +210,94 @@ fn first_without(list: &[u32]) -> u32 {
     u32::MAX
 }
 
-/// Holds the first load outside of a run against the one that was changed to a value that is no candidate's.
-fn check_runs(
-    rt: &impl Abort,
+/// The last candidates of all loads.
+fn last_of_each(alloc: Global, lists: &[&[u32]]) -> Result<Vec<u32>, AllocError> {
+    let mut run = Vec::new(alloc);
+    for list in lists {
+        run.push(list.last().copied().unwrap_or(u32::MAX))?;
+    }
+    Ok(run)
+}
+
+/// Whether the first load outside of a run is the one that was changed to a value that is no candidate's.
+fn answers_runs(
     alloc: Global,
     candidates: &Candidates,
     lists: &[&[u32]],
-) -> Result<(), Fail> {
-    let mut run = Vec::new(alloc);
-    for list in lists {
-        assert!(rt; !list.is_empty());
-        run.push(list[list.len() - 1])?;
+) -> Result<bool, AllocError> {
+    let mut run = last_of_each(alloc, lists)?;
+    if first_outside(candidates, &run).is_some() {
+        return Ok(false);
     }
-    assert_eq!(rt; run.len(), candidates.test().loads() as usize);
-    assert_eq!(rt; candidates.first_outside(&run), None);
     // The later loads stay outside, and the first of them counts.
-    for rank in (0..run.len()).rev() {
-        assert!(rt; rank < lists.len());
-        run[rank] = first_without(lists[rank]);
-        assert_eq!(rt; run.len(), candidates.test().loads() as usize);
-        assert_eq!(rt; candidates.first_outside(&run), Some(rank as u32));
+    for rank in (0..lists.len()).rev() {
+        if let Some(value) = run.get_mut(rank) {
+            *value = first_without(lists[rank]);
+        }
+        if first_outside(candidates, &run) != Some(rank) {
+            return Ok(false);
+        }
     }
-    Ok(())
+    Ok(true)
+}
+
+fn tables_of(alloc: Global, words: u32, threads: &[&[Op]]) -> Result<Candidates, AllocError> {
+    let test = build(alloc, words, threads)?;
+    Candidates::of(alloc, &test)
+}
+
+/// Whether the tables answer of all loads so.
+fn answers_loads(
+    alloc: Global,
+    candidates: &Candidates,
+    lists: &[&[u32]],
+) -> Result<bool, AllocError> {
+    let values = candidates.test().stores().saturating_add(2);
+    for (rank, list) in lists.iter().enumerate() {
+        if !answers_load(alloc, candidates, rank, list, values)? {
+            return Ok(false);
+        }
+    }
+    Ok(lists.len() == loads_of(candidates))
+}
+
+/// Whether the tables of a case answer so.
+fn answers(alloc: Global, case: &Case) -> Result<bool, AllocError> {
+    let candidates = tables_of(alloc, case.words, case.threads)?;
+    Ok(
+        answers_loads(alloc, &candidates, case.candidates)?
+            && answers_runs(alloc, &candidates, case.candidates)?,
+    )
+}
+
+/// The first case whose tables don't.
+fn first_wrong(alloc: Global) -> Result<Option<usize>, AllocError> {
+    for (place, case) in CASES.iter().enumerate() {
+        if !answers(alloc, case)? {
+            return Ok(Some(place));
+        }
+    }
+    Ok(None)
+}
+
+/// The values below this one.
+fn values_below(alloc: Global, end: u32) -> Result<Vec<u32>, AllocError> {
+    let mut list = Vec::new(alloc);
+    for value in 0..end {
+        list.push(value)?;
+    }
+    Ok(list)
+}
+
+/// Whether a load answers so that has more candidates than 8 bits tell apart.
+fn very_many_answer(alloc: Global) -> Result<bool, AllocError> {
+    let candidates = tables_of(alloc, 1, &[&[ST_0; 300], &[LD_0]])?;
+    answers_load(alloc, &candidates, 0, &values_below(alloc, 301)?, 303)
 }
 
 #[test]
 fn candidates_of_loads(rt: HostRuntime) -> Result<(), Fail> {
-    for case in &CASES {
-        let test = build(&rt, rt.alloc(), case.words, case.threads)?;
-        let candidates = Candidates::of(rt.alloc(), &test)?;
-        assert_eq!(rt; case.candidates.len(), candidates.test().loads() as usize);
-        for (rank, list) in case.candidates.iter().enumerate() {
-            check_load(&rt, &candidates, rank as u32, list, test.stores() + 2);
-        }
-        check_runs(&rt, rt.alloc(), &candidates, case.candidates)?;
-    }
-    Ok(())
-}
-
-/// A load with more candidates than 8 bits tell apart.
-#[test]
-fn very_many_candidates(rt: HostRuntime) -> Result<(), Fail> {
-    let alloc = rt.alloc();
-    let stores = vec![in alloc; ST_0; 300]?;
-    let test = build(&rt, alloc, 1, &[stores.as_slice(), &[LD_0]])?;
-    let candidates = Candidates::of(alloc, &test)?;
-    let mut list = Vec::new(alloc);
-    for value in 0..301 {
-        list.push(value)?;
-    }
-    check_load(&rt, &candidates, 0, &list, 303);
+    assert_eq!(rt; first_wrong(rt.alloc())?, None);
+    assert!(rt; very_many_answer(rt.alloc())?);
     Ok(())
 }

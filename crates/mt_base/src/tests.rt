@@ -1,160 +1,173 @@
+//! Sources and sinks in memory, told by tables: what each call answers, and what was taken or is held then.
 use super::*;
-use std::process::Abort;
+use std::alloc::{AllocError, Global};
 use std::test::Fail;
 
-#[derive(Drop)]
-struct Takes<'a> {
-    bytes: &'a [u8],
+struct Takes {
+    bytes: &'static [u8],
     most: usize,
-    fails: &'a [u32],
+    fails: &'static [u32],
     room: usize,
-    answers: &'a [Take],
+    answers: &'static [Take],
 }
 
-#[derive(Drop)]
-struct Puts<'a> {
+struct Puts {
     room: usize,
     most: usize,
-    fails: &'a [u32],
-    piece: &'a [u8],
-    answers: &'a [Put],
-    held: &'a [u8],
+    fails: &'static [u32],
+    piece: &'static [u8],
+    answers: &'static [Put],
+    held: &'static [u8],
 }
 
-// Takes once for each answer, and puts what was taken behind `taken`.
-fn check_takes<S: Source>(
-    rt: &impl Abort,
+const TAKES: [Takes; 4] = [
+    Takes {
+        bytes: b"",
+        most: 1,
+        fails: &[],
+        room: 8,
+        answers: &[Take::End, Take::End],
+    },
+    Takes {
+        bytes: b"abc",
+        most: 1,
+        fails: &[],
+        room: 8,
+        answers: &[Take::Took(1), Take::Took(1), Take::Took(1), Take::End],
+    },
+    Takes {
+        bytes: b"abcde",
+        most: 100,
+        fails: &[],
+        room: 2,
+        answers: &[Take::Took(2), Take::Took(2), Take::Took(1), Take::End],
+    },
+    Takes {
+        bytes: b"abcde",
+        most: 3,
+        fails: &[2, 0, 4, 9],
+        room: 8,
+        answers: &[
+            Take::Failed,
+            Take::Took(3),
+            Take::Failed,
+            Take::Took(2),
+            Take::Failed,
+            Take::End,
+        ],
+    },
+];
+
+const PUTS: [Puts; 4] = [
+    Puts {
+        room: 8,
+        most: 100,
+        fails: &[],
+        piece: b"abc",
+        answers: &[Put::Wrote(3)],
+        held: b"abc",
+    },
+    Puts {
+        room: 8,
+        most: 1,
+        fails: &[1],
+        piece: b"abc",
+        answers: &[Put::Wrote(1), Put::Failed, Put::Wrote(1), Put::Wrote(1)],
+        held: b"abc",
+    },
+    Puts {
+        room: 3,
+        most: 2,
+        fails: &[],
+        piece: b"abcdef",
+        answers: &[Put::Wrote(2), Put::Wrote(1), Put::Failed, Put::Failed],
+        held: b"abc",
+    },
+    Puts {
+        room: 0,
+        most: 1,
+        fails: &[],
+        piece: b"a",
+        answers: &[Put::Failed],
+        held: b"",
+    },
+];
+
+/// Takes once for each answer, puts what was taken behind `taken`, and tells whether each answer came.
+fn answers_takes<S: Source>(
     source: &mut S,
-    row: &Takes<'_>,
+    row: &Takes,
     taken: &mut Vec<u8>,
-) -> Result<(), Fail> {
+) -> Result<bool, AllocError> {
     let mut buf = [0u8; 8];
-    assert!(rt; 0 < row.room && row.room <= 8);
+    if row.room == 0 || 8 < row.room {
+        return Ok(false);
+    }
     for answer in row.answers {
         let took = source.take(&mut buf[..row.room]);
-        assert_eq!(rt; took, *answer);
+        if took != *answer {
+            return Ok(false);
+        }
         if let Take::Took(count) = took {
             taken.extend_from_slice(&buf[..count])?;
         }
     }
-    Ok(())
+    Ok(true)
 }
 
-// Offers what is left of the piece, once for each answer.
-fn check_puts<K: Sink>(rt: &impl Abort, sink: &mut K, row: &Puts<'_>) {
+/// Offers what is left of the piece, once for each answer, and tells whether each came.
+fn answers_puts<K: Sink>(sink: &mut K, row: &Puts) -> bool {
     let mut left = row.piece;
     for answer in row.answers {
-        assert!(rt; !left.is_empty());
+        if left.is_empty() {
+            return false;
+        }
         let put = sink.put(left);
-        assert_eq!(rt; put, *answer);
+        if put != *answer {
+            return false;
+        }
         if let Put::Wrote(count) = put {
             left = &left[count..];
         }
     }
+    true
 }
 
-#[test]
-fn a_source_in_memory_gives_its_bytes_and_fails_where_it_is_told(
-    rt: HostRuntime,
-) -> Result<(), Fail> {
-    let alloc = rt.alloc();
-    let rows = [
-        Takes {
-            bytes: b"",
-            most: 1,
-            fails: &[],
-            room: 8,
-            answers: &[Take::End, Take::End],
-        },
-        Takes {
-            bytes: b"abc",
-            most: 1,
-            fails: &[],
-            room: 8,
-            answers: &[Take::Took(1), Take::Took(1), Take::Took(1), Take::End],
-        },
-        Takes {
-            bytes: b"abcde",
-            most: 100,
-            fails: &[],
-            room: 2,
-            answers: &[Take::Took(2), Take::Took(2), Take::Took(1), Take::End],
-        },
-        Takes {
-            bytes: b"abcde",
-            most: 3,
-            fails: &[2, 0, 4, 9],
-            room: 8,
-            answers: &[
-                Take::Failed,
-                Take::Took(3),
-                Take::Failed,
-                Take::Took(2),
-                Take::Failed,
-                Take::End,
-            ],
-        },
-    ];
-    for row in &rows {
-        assert!(rt; 0 < row.most);
-        let mut taken = Vec::new(alloc);
-        let mut source = MemSource::new(
-            row.bytes.to_vec(alloc)?,
-            row.most,
-            row.fails.to_vec(alloc)?,
-        );
-        check_takes(&rt, &mut source, row, &mut taken)?;
-        assert_eq!(rt; taken.as_slice(), row.bytes);
-    }
-    Ok(())
+fn source_of(alloc: Global, row: &Takes) -> Result<MemSource, AllocError> {
+    let bytes = row.bytes.to_vec(alloc)?;
+    let fails = row.fails.to_vec(alloc)?;
+    Ok(MemSource::new(bytes, row.most.max(1), fails))
 }
 
-#[test]
-fn a_sink_in_memory_keeps_what_it_has_room_for_and_fails_where_it_is_told(
-    rt: HostRuntime,
-) -> Result<(), Fail> {
-    let alloc = rt.alloc();
-    let rows = [
-        Puts {
-            room: 8,
-            most: 100,
-            fails: &[],
-            piece: b"abc",
-            answers: &[Put::Wrote(3)],
-            held: b"abc",
-        },
-        Puts {
-            room: 8,
-            most: 1,
-            fails: &[1],
-            piece: b"abc",
-            answers: &[Put::Wrote(1), Put::Failed, Put::Wrote(1), Put::Wrote(1)],
-            held: b"abc",
-        },
-        Puts {
-            room: 3,
-            most: 2,
-            fails: &[],
-            piece: b"abcdef",
-            answers: &[Put::Wrote(2), Put::Wrote(1), Put::Failed, Put::Failed],
-            held: b"abc",
-        },
-        Puts {
-            room: 0,
-            most: 1,
-            fails: &[],
-            piece: b"a",
-            answers: &[Put::Failed],
-            held: b"",
-        },
-    ];
-    for row in &rows {
-        assert!(rt; 0 < row.most);
-        let mut sink = MemSink::with_room(alloc, row.room, row.most, row.fails.to_vec(alloc)?)?;
-        check_puts(&rt, &mut sink, row);
-        assert_eq!(rt; sink.held_bytes(), row.held);
+fn gives(alloc: Global, row: &Takes) -> Result<bool, AllocError> {
+    let mut source = source_of(alloc, row)?;
+    let mut taken = Vec::new(alloc);
+    Ok(answers_takes(&mut source, row, &mut taken)? && taken.as_slice() == row.bytes)
+}
+
+fn holds(alloc: Global, row: &Puts) -> Result<bool, AllocError> {
+    let mut sink = MemSink::with_room(alloc, row.room, row.most.max(1), row.fails.to_vec(alloc)?)?;
+    Ok(answers_puts(&mut sink, row) && sink.held_bytes() == row.held)
+}
+
+/// The first row of a source that doesn't answer so.
+fn first_wrong_source(alloc: Global) -> Result<Option<usize>, AllocError> {
+    for (place, row) in TAKES.iter().enumerate() {
+        if !gives(alloc, row)? {
+            return Ok(Some(place));
+        }
     }
-    Ok(())
+    Ok(None)
+}
+
+/// The first row of a sink that doesn't.
+fn first_wrong_sink(alloc: Global) -> Result<Option<usize>, AllocError> {
+    for (place, row) in PUTS.iter().enumerate() {
+        if !holds(alloc, row)? {
+            return Ok(Some(place));
+        }
+    }
+    Ok(None)
 }
 
 fn pass<G: Gate + Sync>(gate: &G) {
@@ -163,6 +176,10 @@ fn pass<G: Gate + Sync>(gate: &G) {
 }
 
 #[test]
-fn an_open_gate_lets_everyone_pass() {
+fn what_is_in_memory_answers_as_it_is_told(rt: HostRuntime) -> Result<(), Fail> {
+    assert_eq!(rt; first_wrong_source(rt.alloc())?, None);
+    assert_eq!(rt; first_wrong_sink(rt.alloc())?, None);
+    // An open gate lets everyone pass.
     pass(&OpenGate);
+    Ok(())
 }

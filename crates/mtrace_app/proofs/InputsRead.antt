@@ -1,37 +1,69 @@
--- What reading an input says of it.
+-- What reading an input tells of its meaning.
 use Rattle.std.proofs.Common.{◌≡◌, ◌⊎◌, ℕ, ◌+◌, List, length, Ok, Err, refl, sym, subst, inl, inr}
 use Rattle.test_lang.specs.Program.{Program}
+use Rattle.test_lang.specs.declared.text.fault.TestFault.{TestFault}
+use Rattle.test_lang.specs.declared.text.fault.TestFault.TheVariants.{BadHead, BadWords, BadLine, WordRange, TooManyThreads, TooManyOps, NoThread, NoEnd, Memory as MemoryOfTest}
 use Rattle.test_lang.specs.Text.Grammar.{StartsWithTest, test_lines}
+use Rattle.test_lang.specs.Text.Refusal.{IsRefused as IsRefusedTest}
 use Rattle.run_text.specs.declared.fault.RunFault.{RunFault}
 use Rattle.run_text.specs.declared.fault.RunFault.TheVariants.{BadRunLine, WrongCount, ValueRange, NoDone, AfterDone, Memory}
-use Rattle.run_text.specs.Runs.{reading}
+use Rattle.run_text.specs.Runs.{reading, IsRefused}
 use Rattle.run_text.proofs.Runs.{reading_is_meaning}
-use Rattle.mtrace_app.specs.declared.input_fault.InputFault.TheVariants.{Runs}
-use Rattle.mtrace_app.specs.Counted.{IsUnread, IsUnreadBehind, unread_runs}
-use Rattle.mtrace_app.specs.declared.unread.Unread.{Unread}
-use Rattle.mtrace_app.specs.Recorded.{IsRecorded, IsRefusedInput, behind_test, text_behind}
+use Rattle.mtrace_app.specs.declared.failure.Failure.{Failure}
+use Rattle.mtrace_app.specs.declared.refusal.InputFault.{InputFault}
+use Rattle.mtrace_app.specs.declared.refusal.Refusal.{Refusal}
+use Rattle.mtrace_app.specs.declared.refusal.Refusal.TheVariants.{Input}
+use Rattle.mtrace_app.specs.Counted.{FailsBehind}
+use Rattle.mtrace_app.specs.Failures.{IfRefused, failure_of}
+use Rattle.mtrace_app.specs.Inputs.{AreRecordedRuns, AreRefusedRecords, in_test, in_runs, behind_test, fault_behind_test, fault_in_test, text_behind}
 
 -- the runs that were read behind a test were recorded
-pub recorded_by : (bytes : List ℕ) (p q : Program) (rest : List ℕ) (line : ℕ) (runs : List (List ℕ)) → q ≡ p → StartsWithTest bytes p rest → reading (text_behind q line rest) ≡ Ok runs → IsRecorded bytes p runs
+pub recorded_by : (bytes : List ℕ) (p q : Program) (rest : List ℕ) (line : ℕ) (runs : List (List ℕ)) → q ≡ p → StartsWithTest bytes p rest → reading (text_behind q line rest) ≡ Ok runs → AreRecordedRuns bytes p runs
 recorded_by bytes p q rest line runs same starts e =
     let at_test = subst (λ (t : Program). reading (text_behind t line rest) ≡ Ok runs) same e in
     let means = (reading_is_meaning (text_behind p line rest) (Ok runs) refl).0 at_test in
     record { test = subst (StartsWithTest bytes p) means.1 starts; each = means.0 }
 
-refused_by : (bytes : List ℕ) (p : Program) (rest : List ℕ) (fault : RunFault) → StartsWithTest bytes p rest → reading (behind_test p rest) ≡ Err fault → IsRefusedInput bytes (Runs fault)
-refused_by bytes p rest fault starts e = (p, rest, starts, (reading_is_meaning (behind_test p rest) (Err fault) refl).0 e)
+-- the refusal, if there is one, refuses the input
+abbrev pub RefusesBytes : List ℕ → Refusal → Type 0
+RefusesBytes bytes refusal = (fault : InputFault) × (refusal ≡ Input fault) × AreRefusedRecords bytes fault
 
-unread_fault : (bytes : List ℕ) (p : Program) (rest : List ℕ) (fault : RunFault) → StartsWithTest bytes p rest → (fault ≡ Memory) ⊎ (reading (behind_test p rest) ≡ Err fault) → IsUnread bytes (unread_runs fault)
-unread_fault bytes p rest (BadRunLine line) starts h = elim h [ inl e ↦ absurd cc | inr r ↦ refused_by bytes p rest (BadRunLine line) starts r ]
-unread_fault bytes p rest (WrongCount line want got) starts h = elim h [ inl e ↦ absurd cc | inr r ↦ refused_by bytes p rest (WrongCount line want got) starts r ]
-unread_fault bytes p rest (ValueRange line) starts h = elim h [ inl e ↦ absurd cc | inr r ↦ refused_by bytes p rest (ValueRange line) starts r ]
-unread_fault bytes p rest (NoDone line) starts h = elim h [ inl e ↦ absurd cc | inr r ↦ refused_by bytes p rest (NoDone line) starts r ]
-unread_fault bytes p rest (AfterDone line) starts h = elim h [ inl e ↦ absurd cc | inr r ↦ refused_by bytes p rest (AfterDone line) starts r ]
-unread_fault bytes p rest Memory starts h = tt
+failed_in_test : (bytes : List ℕ) (refusal : TestFault) → IsRefusedTest bytes refusal → IfRefused (RefusesBytes bytes) (failure_of (fault_in_test refusal))
+failed_in_test bytes (BadHead line) h = (_, refl, in_test (BadHead line) h refl)
+failed_in_test bytes (BadWords line) h = (_, refl, in_test (BadWords line) h refl)
+failed_in_test bytes (BadLine line) h = (_, refl, in_test (BadLine line) h refl)
+failed_in_test bytes (WordRange line) h = (_, refl, in_test (WordRange line) h refl)
+failed_in_test bytes (TooManyThreads line) h = (_, refl, in_test (TooManyThreads line) h refl)
+failed_in_test bytes (TooManyOps line) h = (_, refl, in_test (TooManyOps line) h refl)
+failed_in_test bytes (NoThread line) h = (_, refl, in_test (NoThread line) h refl)
+failed_in_test bytes (NoEnd line) h = (_, refl, in_test (NoEnd line) h refl)
+failed_in_test bytes MemoryOfTest h = tt
 
--- what wasn't read behind a test refuses the input
-pub unread_by : (bytes : List ℕ) (p q : Program) (rest : List ℕ) (line : ℕ) (unread : Unread) → q ≡ p → line ≡ length (test_lines p) + 1 → StartsWithTest bytes p rest → IsUnreadBehind (text_behind q line rest) unread → IsUnread bytes unread
-unread_by bytes p q rest line unread same number starts h =
-    let at_test = subst (λ (t : Program). IsUnreadBehind (text_behind t line rest) unread) same h in
-    let here = subst (λ (n : ℕ). IsUnreadBehind (text_behind p n rest) unread) number at_test in
-    subst (IsUnread bytes) (sym here.1) (unread_fault bytes p rest here.0 starts here.2)
+-- what wasn't read as a test refuses the input
+pub failed_in_reading : (bytes : List ℕ) (refusal : TestFault) → (refusal ≡ MemoryOfTest) ⊎ IsRefusedTest bytes refusal → IfRefused (RefusesBytes bytes) (failure_of (fault_in_test refusal))
+failed_in_reading bytes refusal h = elim h [
+  | inl e ↦ subst (λ (r : TestFault). IfRefused (RefusesBytes bytes) (failure_of (fault_in_test r))) (sym e) tt
+  | inr r ↦ failed_in_test bytes refusal r
+]
+
+module _ (bytes : List ℕ) (p : Program) (rest : List ℕ) (starts : StartsWithTest bytes p rest) where
+  refused_behind : (refusal : RunFault) → (refusal ≡ Memory → ⊥) → (refusal ≡ Memory) ⊎ (reading (behind_test p rest) ≡ Err refusal) → IsRefused (behind_test p rest) refusal
+  refused_behind refusal other h = elim h [
+    | inl e ↦ absurd (other e)
+    | inr e ↦ (reading_is_meaning (behind_test p rest) (Err refusal) refl).0 e
+  ]
+
+  failed_behind : (refusal : RunFault) → (refusal ≡ Memory) ⊎ (reading (behind_test p rest) ≡ Err refusal) → IfRefused (RefusesBytes bytes) (failure_of (fault_behind_test refusal))
+  failed_behind (BadRunLine line) h = (_, refl, in_runs p rest (BadRunLine line) starts (refused_behind (BadRunLine line) (λ e. cc) h) refl)
+  failed_behind (WrongCount line want got) h = (_, refl, in_runs p rest (WrongCount line want got) starts (refused_behind (WrongCount line want got) (λ e. cc) h) refl)
+  failed_behind (ValueRange line) h = (_, refl, in_runs p rest (ValueRange line) starts (refused_behind (ValueRange line) (λ e. cc) h) refl)
+  failed_behind (NoDone line) h = (_, refl, in_runs p rest (NoDone line) starts (refused_behind (NoDone line) (λ e. cc) h) refl)
+  failed_behind (AfterDone line) h = (_, refl, in_runs p rest (AfterDone line) starts (refused_behind (AfterDone line) (λ e. cc) h) refl)
+  failed_behind Memory h = tt
+
+  -- what wasn't read behind a test refuses the input
+  pub failed_by : (q : Program) (line : ℕ) (failure : Failure) → q ≡ p → line ≡ length (test_lines p) + 1 → FailsBehind (text_behind q line rest) failure → IfRefused (RefusesBytes bytes) failure
+  failed_by q line failure same number h =
+      let at_test = subst (λ (t : Program). FailsBehind (text_behind t line rest) failure) same h in
+      let here = subst (λ (n : ℕ). FailsBehind (text_behind p n rest) failure) number at_test in
+      subst (IfRefused (RefusesBytes bytes)) (sym here.1) (failed_behind here.0 here.2)

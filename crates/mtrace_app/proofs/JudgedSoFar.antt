@@ -8,7 +8,8 @@ use Rattle.test_lang.specs.Signatures.{Means}
 use Rattle.graph_model.specs.StaticGraph.{StaticGraph}
 use Rattle.verdict_report.specs.declared.report.Judged.{Judged}
 use Rattle.verdict_report.specs.Lines.{signatures}
-use Rattle.mtrace_app.specs.Report.{AreJudged, AreMeant, IsJudged}
+use Rattle.mtrace_app.specs.Counted.{AreMeant}
+use Rattle.mtrace_app.specs.Report.{AreJudged, IsJudged}
 
 judged-push : (model : MemModel) (p : Program) (done : List (List ℕ × ℕ)) (found : List Judged) (next : List ℕ × ℕ) (judged : Judged) → AreJudged model p done found → IsJudged model p next.0 judged
     → AreJudged model p (done ++ next ∷ []) (found ++ judged ∷ [])

@@ -18,7 +18,7 @@ use Rattle.test_lang.specs.Values.{load_count}
 use Rattle.run_text.specs.Runs.{AreRunsOf}
 use Rattle.signature_plan.specs.Outcomes.{outcome_by, outcome_of}
 use Rattle.verdict_report.specs.Lines.{signatures}
-use Rattle.mtrace_app.specs.Report.{AreMeant}
+use Rattle.mtrace_app.specs.Counted.{AreMeant}
 
 -- ---- the outcomes that were counted are outcomes of runs
 
@@ -50,14 +50,14 @@ means_by p run words (Some load) is_run some e = absurd cc
 
 -- ---- each outcome of a tally was counted at least once
 
-abbrev AreCounted : List (Outcome × ℕ) → List Outcome → Type 0
-AreCounted pairs outcomes = AllByRecursion (λ outcome. 1 ≤ count_of pairs outcome) outcomes
+abbrev AllCounted : List (Outcome × ℕ) → List Outcome → Type 0
+AllCounted pairs outcomes = AllByRecursion (λ outcome. 1 ≤ count_of pairs outcome) outcomes
 
 first_or_later : (b : Bool) (first : ℕ) (later : Option ℕ) → 1 ≤ first → 1 ≤ unwrap_or later 0 → 1 ≤ unwrap_or (cond b (Some first) later) 0
 first_or_later true first later f l = f
 first_or_later false first later f l = l
 
-counted_behind : (pair : Outcome × ℕ) (pairs : List (Outcome × ℕ)) (outcomes : List Outcome) → 1 ≤ pair.1 → AreCounted pairs outcomes → AreCounted (pair ∷ pairs) outcomes
+counted_behind : (pair : Outcome × ℕ) (pairs : List (Outcome × ℕ)) (outcomes : List Outcome) → 1 ≤ pair.1 → AllCounted pairs outcomes → AllCounted (pair ∷ pairs) outcomes
 counted_behind pair pairs [] some h = tt
 counted_behind pair pairs (outcome ∷ more) some h = (first_or_later (outcome_eq outcome pair.0) pair.1 (lookup (outcome_eq outcome) pairs) some h.0, counted_behind pair pairs more some h.1)
 
@@ -65,7 +65,7 @@ here_counts : (b : Bool) (first : ℕ) (later : Option ℕ) → b ≡ true → 1
 here_counts true first later e f = f
 here_counts false first later e f = cc
 
-all_counted : (pairs : List (Outcome × ℕ)) → All (λ count. 1 ≤ count) (values_of pairs) → AreCounted pairs (keys_of pairs)
+all_counted : (pairs : List (Outcome × ℕ)) → All (λ count. 1 ≤ count) (values_of pairs) → AllCounted pairs (keys_of pairs)
 all_counted [] h = tt
 all_counted (pair ∷ pairs) h =
     let some = All-head (λ count. 1 ≤ count) pair.1 (values_of pairs) h in (
@@ -78,7 +78,7 @@ all_counted (pair ∷ pairs) h =
 abbrev AreOutcomes : Program → List Outcome → Type 0
 AreOutcomes p outcomes = AllByRecursion (RunWith p) outcomes
 
-outcomes_of : (p : Program) (runs : List (List ℕ)) (pairs : List (Outcome × ℕ)) (outcomes : List Outcome) → AreRunsOf (load_count p) runs → IsTally (map (outcome_of p) runs) pairs → AreCounted pairs outcomes → AreOutcomes p outcomes
+outcomes_of : (p : Program) (runs : List (List ℕ)) (pairs : List (Outcome × ℕ)) (outcomes : List Outcome) → AreRunsOf (load_count p) runs → IsTally (map (outcome_of p) runs) pairs → AllCounted pairs outcomes → AreOutcomes p outcomes
 outcomes_of p runs pairs [] each tally h = tt
 outcomes_of p runs pairs (outcome ∷ more) each tally h =
     let here = h.0 in

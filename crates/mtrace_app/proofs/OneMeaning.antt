@@ -1,45 +1,59 @@
--- An input says one thing: one test and one list of runs, or that it is refused.
-use Rattle.std.proofs.Common.{◌≡◌, ◌∙◌, ℕ, List, ◌++◌, Ok, Err, refl, sym, ap}
+-- A text of a test with runs behind it means one thing: one test and one list of runs, or a refusal.
+use Rattle.std.proofs.Common.{◌≡◌, ◌∙◌, ℕ, List, ◌++◌, Result, Ok, Err, refl, sym, ap}
+use Rattle.std.specs.Prelude.{Some}
 use Rattle.std.proofs.lemmas.List.{append_cancel_left}
 use Rattle.test_lang.specs.Program.{Program}
+use Rattle.test_lang.specs.declared.text.fault.TestFault.{TestFault}
 use Rattle.test_lang.specs.Text.Grammar.{StartsWithTest, test_text}
+use Rattle.test_lang.specs.Text.Refusal.{IsRefused as IsRefusedTest}
 use Rattle.test_lang.proofs.TextLemmas.Readings.{means_reading}
 use Rattle.run_text.specs.declared.fault.RunFault.{RunFault}
-use Rattle.run_text.specs.Runs.{reading, runs_text, IsRefused}
+use Rattle.run_text.specs.Runs.{reading, runs_text, RunsMean}
 use Rattle.run_text.proofs.Runs.{reading_is_meaning}
-use Rattle.mtrace_app.specs.declared.input_fault.InputFault.{InputFault}
-use Rattle.mtrace_app.specs.declared.input_fault.InputFault.TheVariants.{Test, Runs}
-use Rattle.mtrace_app.specs.Recorded.{IsRecorded, IsRefusedInput, behind_test}
+use Rattle.mtrace_app.specs.declared.refusal.InputFault.{InputFault}
+use Rattle.mtrace_app.specs.Inputs.{AreRecordedRuns, AreRefusedRecords, in_test, in_runs, behind_test, fault_in_test, fault_behind_test}
 
-pub same_test : (bytes : List ℕ) (p q : Program) (rest others : List ℕ) → StartsWithTest bytes p rest → StartsWithTest bytes q others → p ≡ q
-same_test bytes p q rest others a b =
-    let same = sym (means_reading bytes (Ok p) (rest, a)) ∙ means_reading bytes (Ok q) (others, b) in cc
+module _ (bytes : List ℕ) where
+  pub same_test : (p q : Program) (rest others : List ℕ) → StartsWithTest bytes p rest → StartsWithTest bytes q others → p ≡ q
+  same_test p q rest others a b =
+      let same = sym (means_reading bytes (Ok p) (rest, a)) ∙ means_reading bytes (Ok q) (others, b) in cc
 
-pub same_rest : (bytes : List ℕ) (p q : Program) (rest others : List ℕ) → StartsWithTest bytes p rest → StartsWithTest bytes q others → rest ≡ others
-same_rest bytes p q rest others a b =
-    let texts : test_text p ≡ test_text q = ap test_text (same_test bytes p q rest others a b) in
-    append_cancel_left (test_text q) rest others (ap (λ (t : List ℕ). t ++ rest) (sym texts) ∙ sym a.whole ∙ b.whole)
+  pub same_rest : (p q : Program) (rest others : List ℕ) → StartsWithTest bytes p rest → StartsWithTest bytes q others → rest ≡ others
+  same_rest p q rest others a b =
+      let texts : test_text p ≡ test_text q = ap test_text (same_test p q rest others a b) in
+      append_cancel_left (test_text q) rest others (ap (λ (t : List ℕ). t ++ rest) (sym texts) ∙ sym a.whole ∙ b.whole)
 
-runs_read : (bytes : List ℕ) (p : Program) (runs : List (List ℕ)) → IsRecorded bytes p runs → reading (behind_test p (runs_text runs)) ≡ Ok runs
-runs_read bytes p runs h = (reading_is_meaning (behind_test p (runs_text runs)) (Ok runs) refl).1 (h.each, refl)
+  -- what stands behind the one test is read in one way
+  same_reading : (p q : Program) (rest others : List ℕ) (read other : Result (List (List ℕ)) RunFault) → StartsWithTest bytes p rest → StartsWithTest bytes q others
+      → RunsMean (behind_test p rest) read → RunsMean (behind_test q others) other → read ≡ other
+  same_reading p q rest others read other a b h k =
+      let tests = same_test p q rest others a b in
+      let texts = same_rest p q rest others a b in
+      let readers = ap (λ (t : Program). reading (behind_test t rest)) tests ∙ ap (λ (t : List ℕ). reading (behind_test q t)) texts in
+      sym ((reading_is_meaning (behind_test p rest) read refl).1 h) ∙ readers ∙ (reading_is_meaning (behind_test q others) other refl).1 k
 
-pub one_meaning : (bytes : List ℕ) (p q : Program) (runs others : List (List ℕ)) → IsRecorded bytes p runs → IsRecorded bytes q others → (p ≡ q) × (runs ≡ others)
-one_meaning bytes p q runs others a b =
-    let tests = same_test bytes p q (runs_text runs) (runs_text others) a.test b.test in
-    let texts = same_rest bytes p q (runs_text runs) (runs_text others) a.test b.test in
-    let readers = ap (λ (t : Program). reading (behind_test t (runs_text runs))) tests ∙ ap (λ (t : List ℕ). reading (behind_test q t)) texts in
-    let read = sym (runs_read bytes p runs a) ∙ readers ∙ runs_read bytes q others b in
-    (tests, (let e : runs ≡ others = cc in e))
+  pub one_meaning : (p q : Program) (runs others : List (List ℕ)) → AreRecordedRuns bytes p runs → AreRecordedRuns bytes q others → (p ≡ q) × (runs ≡ others)
+  one_meaning p q runs others a b =
+      let read = same_reading p q (runs_text runs) (runs_text others) (Ok runs) (Ok others) a.test b.test (a.each, refl) (b.each, refl) in
+      (same_test p q (runs_text runs) (runs_text others) a.test b.test, (let e : runs ≡ others = cc in e))
 
-not_refused_behind : (bytes : List ℕ) (p q : Program) (runs : List (List ℕ)) (rest : List ℕ) (fault : RunFault) → IsRecorded bytes p runs → StartsWithTest bytes q rest → IsRefused (behind_test q rest) fault → ⊥
-not_refused_behind bytes p q runs rest fault a starts refused =
-    let tests = same_test bytes p q (runs_text runs) rest a.test starts in
-    let texts = same_rest bytes p q (runs_text runs) rest a.test starts in
-    let readers = ap (λ (t : Program). reading (behind_test t (runs_text runs))) tests ∙ ap (λ (t : List ℕ). reading (behind_test q t)) texts in
-    let read = sym (runs_read bytes p runs a) ∙ readers ∙ (reading_is_meaning (behind_test q rest) (Err fault) refl).1 refused in
-    cc
+  not_a_test : (p : Program) (rest : List ℕ) (refusal : TestFault) → StartsWithTest bytes p rest → IsRefusedTest bytes refusal → ⊥
+  not_a_test p rest refusal starts refused =
+      let same = sym (means_reading bytes (Ok p) (rest, starts)) ∙ means_reading bytes (Err refusal) refused in cc
 
-pub not_both : (bytes : List ℕ) (p : Program) (runs : List (List ℕ)) (fault : InputFault) → IsRecorded bytes p runs → IsRefusedInput bytes fault → ⊥
-not_both bytes p runs (Test fault) a refused =
-    let same = sym (means_reading bytes (Ok p) (runs_text runs, a.test)) ∙ means_reading bytes (Err fault) refused in cc
-not_both bytes p runs (Runs fault) a refused = not_refused_behind bytes p refused.0 runs refused.1 fault a refused.2 refused.3
+  pub not_both : (p : Program) (runs : List (List ℕ)) (fault : InputFault) → AreRecordedRuns bytes p runs → AreRefusedRecords bytes fault → ⊥
+  not_both p runs fault a (in_test refusal refused named) = not_a_test p (runs_text runs) refusal a.test refused
+  not_both p runs fault a (in_runs q rest refusal starts refused named) =
+      let read = same_reading p q (runs_text runs) rest (Ok runs) (Err refusal) a.test starts (a.each, refl) refused in cc
+
+  pub one_refusal : (fault other : InputFault) → AreRefusedRecords bytes fault → AreRefusedRecords bytes other → fault ≡ other
+  one_refusal fault other (in_test r h named) (in_test t k also) =
+      let same = sym (means_reading bytes (Err r) h) ∙ means_reading bytes (Err t) k in
+      let e : r ≡ t = cc in
+      let same_name : Some fault ≡ Some other = sym named ∙ ap fault_in_test e ∙ also in cc
+  one_refusal fault other (in_test r h named) (in_runs q rest t starts k also) = absurd (not_a_test q rest r starts h)
+  one_refusal fault other (in_runs p rest r starts h named) (in_test t k also) = absurd (not_a_test p rest t starts k)
+  one_refusal fault other (in_runs p rest r starts h named) (in_runs q others t also_starts k also) =
+      let read = same_reading p q rest others (Err r) (Err t) starts also_starts h k in
+      let e : r ≡ t = cc in
+      let same_name : Some fault ≡ Some other = sym named ∙ ap fault_behind_test e ∙ also in cc

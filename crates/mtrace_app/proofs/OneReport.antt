@@ -18,9 +18,12 @@ use Rattle.verdict_report.specs.declared.report.Judged.TheVariants.{Ok, Cycle}
 use Rattle.verdict_report.specs.declared.report.Work.{Work}
 use Rattle.verdict_report.specs.Lines.{head_lines, named, signatures, outsides, outside_line, signature_line, verdict_text, is_ok, is_cycle, sum_line, work_line, report_text_of, has_cycle, has_outside}
 use Rattle.verdict_report.specs.Numbers.{signature_text}
-use Rattle.mtrace_app.specs.Input.{IsReported}
 use Rattle.mtrace_app.specs.Report.{AreJudged, IsJudged, IsReport, IsVerdict, work_alone}
-use Rattle.mtrace_app.proofs.OneMeaning.{one_meaning}
+use Rattle.command_line.specs.declared.meaning.Command.{Command}
+use Rattle.command_line.specs.declared.meaning.Command.TheVariants.{Check}
+use Rattle.command_line.specs.declared.meaning.Settings.{Settings}
+use Rattle.mtrace_app.specs.Outputs.{IsOutputOf, OutputsBy}
+use Rattle.mtrace_app.proofs.ByCommand.{one_meaning_by}
 
 -- a report shows the same of both verdicts
 record LookSame (a b : Judged) : Type 0 where
@@ -101,23 +104,29 @@ module _ (model : MemModel) (runs : ℕ) (tally : List (Outcome × ℕ)) (work :
       ∙ ap (λ (n : ℕ). text_with (lines others) n (count_by is_cycle found)) (same_oks found others h)
       ∙ ap (λ (n : ℕ). text_with (lines others) (count_by is_ok others) n) (same_cycles found others h)
 
-same_report : (model : MemModel) (p : Program) (chunk : ℕ) (runs : List (List ℕ)) (text other : List ℕ) (is_clean also : Bool) → IsReport model p chunk runs text is_clean → IsReport model p chunk runs other also
+same_report : (model : MemModel) (chunk : ℕ) (p : Program) (runs : List (List ℕ)) (text other : List ℕ) (is_clean also : Bool) → IsReport model chunk p runs text is_clean → IsReport model chunk p runs other also
     → (text ≡ other) × (is_clean ≡ also)
-same_report model p chunk runs text other is_clean also h k =
-    let same : h.tally ≡ k.tally = one_tally (map (outcome_of p) runs) h.tally k.tally h.counts k.counts in
-    let judged : AreJudged model p (signatures k.tally) h.found = subst (λ (t : List (Outcome × ℕ)). AreJudged model p (signatures t) h.found) same h.verdicts in
-    let look : AllLookSame h.found k.found = all_judged model p (signatures k.tally) h.found k.found judged k.verdicts in (
-      h.whole ∙ ap (λ (t : List (Outcome × ℕ)). report_text_of model (length runs) t h.found (work_alone (length (signatures t)))) same
-          ∙ same_text model (length runs) k.tally (work_alone (length (signatures k.tally))) h.found k.found look ∙ sym k.whole,
-      h.clean ∙ ap (λ (t : List (Outcome × ℕ)). not (has_cycle h.found) && not (has_outside t)) same
-          ∙ ap (λ (b : Bool). not b && not (has_outside k.tally)) (same_any h.found k.found look) ∙ sym k.clean,
+same_report model chunk p runs text other is_clean also h k =
+    let f = h.findings in
+    let g = k.findings in
+    let same : f.tally ≡ g.tally = one_tally (map (outcome_of p) runs) f.tally g.tally h.found.counts k.found.counts in
+    let judged : AreJudged model p (signatures g.tally) f.verdicts = subst (λ (t : List (Outcome × ℕ)). AreJudged model p (signatures t) f.verdicts) same h.found.judged in
+    let look : AllLookSame f.verdicts g.verdicts = all_judged model p (signatures g.tally) f.verdicts g.verdicts judged k.found.judged in
+    let work : f.work ≡ g.work = h.found.works.numbers ∙ ap (λ (t : List (Outcome × ℕ)). work_alone (length (signatures t))) same ∙ sym k.found.works.numbers in (
+      h.whole ∙ ap (λ (t : List (Outcome × ℕ)). report_text_of model (length runs) t f.verdicts f.work) same
+          ∙ ap (λ (w : Work). report_text_of model (length runs) g.tally f.verdicts w) work
+          ∙ same_text model (length runs) g.tally g.work f.verdicts g.verdicts look ∙ sym k.whole,
+      h.clean ∙ ap (λ (t : List (Outcome × ℕ)). not (has_cycle f.verdicts) && not (has_outside t)) same
+          ∙ ap (λ (b : Bool). not b && not (has_outside g.tally)) (same_any f.verdicts g.verdicts look) ∙ sym k.clean,
     )
 
-pub one_report : (model : MemModel) (chunk : ℕ) (bytes text other : List ℕ) (is_clean also : Bool) → IsReported model chunk bytes text is_clean → IsReported model chunk bytes other also
+pub one_output : (s : Settings) (bytes text other : List ℕ) (is_clean also : Bool) → s.command ≡ Check → IsOutputOf s bytes text is_clean → IsOutputOf s bytes other also
     → (text ≡ other) × (is_clean ≡ also)
-one_report model chunk bytes text other is_clean also h k =
-    let same = one_meaning bytes k.test h.test k.runs h.runs k.recorded h.recorded in
-    let report =
-    subst (λ (rs : List (List ℕ)). IsReport model h.test chunk rs other also) same.1
-    (subst (λ (q : Program). IsReport model q chunk k.runs other also) same.0 k.report) in
-    same_report model h.test chunk h.runs text other is_clean also h.report report
+one_output s bytes text other is_clean also check h k =
+    let same = one_meaning_by s.command bytes k.test h.test k.runs h.runs k.recorded h.recorded in
+    let there =
+    subst (λ (rs : List (List ℕ)). OutputsBy s.command s h.test rs other also) same.1
+    (subst (λ (q : Program). OutputsBy s.command s q k.runs other also) same.0 k.output) in
+    same_report s.model s.chunk h.test h.runs text other is_clean also
+    (subst (λ (c : Command). OutputsBy c s h.test h.runs text is_clean) check h.output)
+    (subst (λ (c : Command). OutputsBy c s h.test h.runs other also) check there)

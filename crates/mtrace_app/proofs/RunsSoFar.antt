@@ -12,8 +12,8 @@ use Rattle.run_text.specs.Reader.{Reader}
 use Rattle.run_text.specs.Runs.{reading, with_run, with_runs, AreRunsOf, IsRunRead, ReadsOn}
 use Rattle.run_text.proofs.Runs.{with_runs-push}
 use Rattle.signature_plan.specs.Outcomes.{outcome_of}
-use Rattle.mtrace_app.specs.Counted.{IsCounted}
-use Rattle.mtrace_app.specs.Input.{FitLimits}
+use Rattle.mtrace_app.specs.Counted.{AreCountedWithin}
+use Rattle.mtrace_app.specs.Limits.{FitLimits}
 use Rattle.mtrace_app.proofs.Meanings.{tallied_mean}
 
 -- a list that was lent whole has the length of what came back
@@ -103,12 +103,18 @@ so_far-push p start before after count old new run taken is h read counts totals
 pub so_far-end : (p : Program) (start now : Reader) (count : ℕ) (counter : Counting) → (h : IsSoFar p start now count counter) → reading now ≡ Ok [] → reading start ≡ Ok h.runs
 so_far-end p start now count counter h end = h.in_all ∙ ap (with_runs h.runs) end ∙ with_runs-ok h.runs
 
-pub counted_all : (p : Program) (start now : Reader) (count : ℕ) (counter : Counting) (pairs : List (Outcome × ℕ)) → (h : IsSoFar p start now count counter) → ((outcomes : List Outcome) → HasCounted outcomes counter → IsTally outcomes pairs) → pairs ≡ counter.pairs → IsCounted p h.runs count pairs
+pub counted_all : (p : Program) (start now : Reader) (count : ℕ) (counter : Counting) (pairs : List (Outcome × ℕ)) → (h : IsSoFar p start now count counter) → ((outcomes : List Outcome) → HasCounted outcomes counter → IsTally outcomes pairs) → pairs ≡ counter.pairs
+    → AreCountedWithin p h.runs count pairs
 counted_all p start now count counter pairs h tallies same = record {
   number = h.number;
-  tally = λ fit. tallies (map (outcome_of p) h.runs) (h.counted (subst (λ (n : ℕ). FitLimits n (load_count p)) (sym h.number) fit));
-  meant = λ fit. tallied_mean p h.runs pairs h.each (tallies (map (outcome_of p) h.runs) (h.counted (subst (λ (n : ℕ). FitLimits n (load_count p)) (sym h.number) fit)));
-  sum = λ fit. ap total_of same ∙ h.total (subst (λ (n : ℕ). FitLimits n (load_count p)) (sym h.number) fit) ∙ h.number;
+  counted = λ fit.
+      let counts = tallies (map (outcome_of p) h.runs) (h.counted fit) in
+      record {
+        number = h.number;
+        counts = counts;
+        sum = ap total_of same ∙ h.total fit ∙ h.number;
+        meant = tallied_mean p h.runs pairs h.each counts;
+      };
 }
 
 -- a line is refused

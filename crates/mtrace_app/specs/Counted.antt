@@ -1,44 +1,38 @@
--- The runs of an input as they are counted, and why they aren't.
+-- Runs that were counted.
 use Rattle.std.specs.Prelude.{◌≡◌, ◌⊎◌, ℕ, List, map, length, Err}
+use Rattle.std.specs.List.{AllByRecursion}
 use Rattle.tally.specs.declared.outcome.Outcome.{Outcome}
 use Rattle.tally.specs.Tallies.{IsTally, total_of}
 use Rattle.test_lang.specs.Program.{Program}
-use Rattle.test_lang.specs.declared.text.fault.TestFault.{TestFault}
-use Rattle.test_lang.specs.declared.text.fault.TestFault.TheVariants.{Memory as MemoryOfTest}
+use Rattle.test_lang.specs.Signatures.{Means}
+use Rattle.test_lang.specs.Values.{load_count}
 use Rattle.run_text.specs.declared.fault.RunFault.{RunFault}
 use Rattle.run_text.specs.declared.fault.RunFault.TheVariants.{Memory as MemoryOfRuns}
 use Rattle.run_text.specs.Reader.{Reader}
 use Rattle.run_text.specs.Runs.{reading}
 use Rattle.signature_plan.specs.Outcomes.{outcome_of}
 use Rattle.verdict_report.specs.Lines.{signatures}
-use Rattle.mtrace_app.specs.declared.input_fault.InputFault.TheVariants.{Test, Runs}
-use Rattle.mtrace_app.specs.declared.unread.Unread.{Unread}
-use Rattle.mtrace_app.specs.declared.unread.Unread.TheVariants.{Refused, Memory}
-use Rattle.mtrace_app.specs.Input.{AreWithinLimits}
-use Rattle.mtrace_app.specs.Recorded.{IsRefusedInput}
-use Rattle.mtrace_app.specs.Report.{AreMeant}
+use Rattle.mtrace_app.specs.declared.failure.Failure.{Failure}
+use Rattle.mtrace_app.specs.Failures.{failure_of}
+use Rattle.mtrace_app.specs.Inputs.{fault_behind_test}
+use Rattle.mtrace_app.specs.Limits.{FitLimits}
 
--- The number of the runs, and their tally, which is claimed only of runs within the limits.
-pub record IsCounted (p : Program) (runs : List (List ℕ)) (count : ℕ) (pairs : List (Outcome × ℕ)) : Type 0 where
+-- each signature of a tally means a run
+abbrev pub AreMeant : Program → List (List ℕ × ℕ) → Type 0
+AreMeant p signatures = AllByRecursion (λ signature. (run : List ℕ) × Means p signature.0 run) signatures
+
+-- So many runs, the counts of their outcomes, and each signature among these means a run.
+pub record AreCounted (p : Program) (runs : List (List ℕ)) (count : ℕ) (tally : List (Outcome × ℕ)) : Type 0 where
   pub number : count ≡ length runs
-  pub tally : AreWithinLimits p runs → IsTally (map (outcome_of p) runs) pairs
-  pub sum : AreWithinLimits p runs → total_of pairs ≡ length runs
-  pub meant : AreWithinLimits p runs → AreMeant p (signatures pairs)
+  pub counts : IsTally (map (outcome_of p) runs) tally
+  pub sum : total_of tally ≡ length runs
+  pub meant : AreMeant p (signatures tally)
 
--- a refusal of the test, or of the runs, as one of the input
-abbrev pub unread_test : TestFault → Unread
-unread_test MemoryOfTest = Memory
-unread_test fault = Refused (Test fault)
-
-abbrev pub unread_runs : RunFault → Unread
-unread_runs MemoryOfRuns = Memory
-unread_runs fault = Refused (Runs fault)
-
--- the input is refused so, or memory was refused
-abbrev pub IsUnread : List ℕ → Unread → Type 0
-IsUnread bytes (Refused fault) = IsRefusedInput bytes fault
-IsUnread bytes Memory = Unit {0}
+-- So many runs, and their counts where they are within the limits.
+pub record AreCountedWithin (p : Program) (runs : List (List ℕ)) (count : ℕ) (tally : List (Outcome × ℕ)) : Type 0 where
+  pub number : count ≡ length runs
+  pub counted : FitLimits count (load_count p) → AreCounted p runs count tally
 
 -- the text of runs is refused so, or memory was refused
-abbrev pub IsUnreadBehind : Reader → Unread → Type 0
-IsUnreadBehind reader unread = (fault : RunFault) × (unread ≡ unread_runs fault) × ((fault ≡ MemoryOfRuns) ⊎ (reading reader ≡ Err fault))
+abbrev pub FailsBehind : Reader → Failure → Type 0
+FailsBehind reader failure = (refusal : RunFault) × (failure ≡ failure_of (fault_behind_test refusal)) × ((refusal ≡ MemoryOfRuns) ⊎ (reading reader ≡ Err refusal))

@@ -1,6 +1,5 @@
--- The report of recorded runs.
+-- The report of runs: what is found of them, and the text that tells it.
 use Rattle.std.specs.Prelude.{◌≡◌, ◌⊎◌, ℕ, ◌≤◌, List, [], ◌∷◌, map, length, Bool, not, ◌&&◌}
-use Rattle.std.specs.List.{AllByRecursion}
 use Rattle.tally.specs.declared.outcome.Outcome.{Outcome}
 use Rattle.tally.specs.Tallies.{IsTally, total_of}
 use Rattle.test_lang.specs.declared.op.MemModel.{MemModel}
@@ -32,27 +31,36 @@ AreJudged model p [] (judged ∷ found) = ⊥
 AreJudged model p (signature ∷ more) [] = ⊥
 AreJudged model p (signature ∷ more) (judged ∷ found) = IsJudged model p signature.0 judged × AreJudged model p more found
 
--- each signature of a tally means a run
-abbrev pub AreMeant : Program → List (List ℕ × ℕ) → Type 0
-AreMeant p signatures = AllByRecursion (λ signature. (run : List ℕ) × Means p signature.0 run) signatures
-
 -- so many chunks of one signature each: all nodes of each are sorted
 abbrev pub work_alone : ℕ → Work
 work_alone count = record { chunks = count; full = count; kept = 0; resorted = 0; nodes = 0 }
 
--- no chunk has more than one of so many signatures
-abbrev pub IsAlone : ℕ → ℕ → Type 0
-IsAlone chunk count = (chunk ≡ 1) ⊎ (count ≤ 1)
+-- The work on these signatures, in chunks of this size. So far no chunk has more than one of them.
+pub record IsWork (model : MemModel) (p : Program) (chunk : ℕ) (signatures : List (List ℕ × ℕ)) (work : Work) : Type 0 where
+  pub alone : (chunk ≡ 1) ⊎ (length signatures ≤ 1)
+  pub numbers : work ≡ work_alone (length signatures)
 
--- The text of the report of these runs, where no chunk of this size has more than one signature, and whether it has no line of a cycle and none of an outcome outside.
-pub record IsReport (model : MemModel) (p : Program) (chunk : ℕ) (runs : List (List ℕ)) (text : List ℕ) (is_clean : Bool) : Type 0 where
+-- What is found of runs: the counts of their outcomes, the verdicts on the signatures among these, and the work.
+pub record Findings : Type 0 where
   pub tally : List (Outcome × ℕ)
-  pub found : List Judged
+  pub verdicts : List Judged
+  pub work : Work
+
+pub record AreFindings (model : MemModel) (chunk : ℕ) (p : Program) (runs : List (List ℕ)) (f : Findings) : Type 0 where
   -- each distinct outcome once, rising, with its count, and the counts sum to the runs
-  pub counts : IsTally (map (outcome_of p) runs) tally
-  pub sum : total_of tally ≡ length runs
+  pub counts : IsTally (map (outcome_of p) runs) f.tally
+  pub sum : total_of f.tally ≡ length runs
   -- each distinct signature with its verdict
-  pub verdicts : AreJudged model p (signatures tally) found
-  pub alone : IsAlone chunk (length (signatures tally))
-  pub whole : text ≡ report_text_of model (length runs) tally found (work_alone (length (signatures tally)))
-  pub clean : is_clean ≡ (not (has_cycle found) && not (has_outside tally))
+  pub judged : AreJudged model p (signatures f.tally) f.verdicts
+  pub works : IsWork model p chunk (signatures f.tally) f.work
+
+-- no verdict is a cycle, and no outcome is outside
+abbrev pub are_clean : Findings → Bool
+are_clean f = not (has_cycle f.verdicts) && not (has_outside f.tally)
+
+-- The text tells what is found of these runs, and whether it is clean.
+pub record IsReport (model : MemModel) (chunk : ℕ) (p : Program) (runs : List (List ℕ)) (text : List ℕ) (is_clean : Bool) : Type 0 where
+  pub findings : Findings
+  pub found : AreFindings model chunk p runs findings
+  pub whole : text ≡ report_text_of model (length runs) findings.tally findings.verdicts findings.work
+  pub clean : is_clean ≡ are_clean findings

@@ -1,48 +1,67 @@
-//! What an input is answered.
-ghost use Rattle.std.specs.Prelude.{◌≡◌};
-ghost use Rattle.mtrace_app.specs.Answer.{line_of_answer, status_of};
+//! What a call answers, before anything of it is written.
+ghost use Rattle.std.specs.Prelude.{◌≡◌, ◌⊎◌, ◌≤◌};
+ghost use Rattle.mtrace_app.specs.Answering.{IsAnswerTo, TellsRefusal, answer_line, answer_status};
+ghost use Rattle.mtrace_app.specs.Answers.{IsDueByWords, texts};
+ghost use Rattle.mtrace_app.specs.Outside.{change, IsPastLimit, IsRestOf, WhereTold};
+ghost use Rattle.mtrace_app.specs.Refusals.{status_of};
 
-use crate::status::{Status, message};
+use crate::counted::Output;
+use crate::failure::Failure;
+use crate::output::output_for;
+use crate::refusal::Refusal;
+use crate::status::Status;
+use mt_base::Source;
+use std::alloc::Global;
+use std::borrow::CowStr;
 
-/// How a call ends, and what it writes.
+/// An output that is to be written, or a refusal with its line, or memory was refused.
 #[derive(Drop)]
 pub(crate) enum Answer {
-    /// The input has a report, which this is the text of.
-    Report {
-        text: Vec<u8>,
-        /// It has no line of a cycle and none of a value outside of the candidates.
-        is_clean: bool,
+    Made(Output),
+    Refused {
+        refusal: Refusal,
+        line: CowStr<'static>,
     },
-    /// The input is refused, which this line tells.
-    Refused(String),
-    /// The input passes a limit, which this line tells.
-    PastLimits(String),
-    /// Any other status, which its own line tells.
-    Ended(Status),
+    NoMemory,
+}
+
+/// A refusal with its line, unless that wants memory which is refused.
+fn refused(alloc: Global, refusal: Refusal) -> Answer
+    ensures { TellsRefusal refusal result }
+{
+    match refusal.line(alloc) {
+        Ok(line) => Answer::Refused { refusal, line },
+        Err(_) => Answer::NoMemory,
+    }
+}
+
+/// The answer to words.
+pub(crate) fn answer_words<S: Source>(alloc: Global, words: &[String], source: &mut S) -> Answer
+    ensures answer { IsAnswerTo (texts words.now)
+        (change (S.left source.old) (S.left source.new) (S.faults source.old) (S.faults source.new)) result }
+    ensures by_words { (refusal : Refusal) → IsDueByWords (texts words.now) refusal →
+        ((answer_status result ≡ status_of refusal) ⊎ (result ≡ Answer.NoMemory)) × (source.new ≡ source.old) }
+    ensures too_large { WhereTold (S.left source.old) (S.left source.new)
+        (λ before now. IsPastLimit before now → answer_status result ≡ Status.TooLarge) }
+    ensures rest { IsRestOf (S.left source.old) (S.left source.new) }
+    ensures later { S.faults source.old ≤ S.faults source.new }
+{
+    match output_for(alloc, words, source) {
+        Ok(output) => Answer::Made(output),
+        Err(Failure::Refused(refusal)) => refused(alloc, refusal),
+        Err(Failure::Memory) => Answer::NoMemory,
+    }
 }
 
 impl Answer {
-    /// The status, where everything is written.
-    pub(crate) fn status(&self) -> Status
-        ensures { result ≡ status_of self.now }
-    {
-        match self {
-            Answer::Report { is_clean: true, .. } => Status::Clean,
-            Answer::Report { .. } => Status::Found,
-            Answer::Refused(_) => Status::Input,
-            Answer::PastLimits(_) => Status::TooLarge,
-            Answer::Ended(status) => *status,
-        }
-    }
-
-    /// The bytes of the line for the errors; none with a report.
+    /// The bytes of the line for the errors, where everything is written; none with an output.
     pub(crate) fn line(&self) -> &[u8]
-        ensures { result.now ≡ line_of_answer self.now }
+        ensures { result.now ≡ answer_line self.now }
     {
         match self {
-            Answer::Report { .. } => b"",
-            Answer::Refused(line) | Answer::PastLimits(line) => line.as_bytes(),
-            Answer::Ended(status) => message(*status),
+            Answer::Made(_) => b"",
+            Answer::Refused { line, .. } => line.as_bytes(),
+            Answer::NoMemory => b"mtrace: memory\n",
         }
     }
 }

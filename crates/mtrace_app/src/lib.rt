@@ -2,23 +2,23 @@
 #![tactic(auto)]
 
 mod answer;
-mod answering;
 mod check;
-mod input_fault;
+mod counted;
+mod failure;
 mod judging;
 pub mod laws;
-mod message;
+mod limits;
+mod output;
 mod program;
 mod reading;
 mod recorded;
-mod report;
+mod refusal;
 mod status;
-mod unread;
 mod writing;
 
 pub use command_line::{Command, Settings, WordsFault, settings};
-pub use input_fault::InputFault;
 pub use program::mtrace;
+pub use refusal::{InputFault, Reason, Refusal, Size};
 pub use status::Status;
 
 #[cfg(test)]

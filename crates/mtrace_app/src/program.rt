@@ -1,20 +1,19 @@
 //! The call that does all that the program does.
-ghost use Rattle.std.specs.Prelude.{◌≡◌, ◌≢◌, ◌⊎◌, ◌≤◌, ◌^◌, ℕ, List, length, IfSome};
-ghost use Rattle.std.specs.Io.KnownBytes.{Appends, Keeps};
+ghost use Rattle.std.specs.Prelude.{◌≡◌, ◌≢◌, ◌⊎◌, ◌≤◌, ◌^◌, ℕ, List, length, IfSome, codes};
+ghost use Rattle.std.specs.Io.KnownBytes.{Keeps};
 ghost use Rattle.mt_base.specs.Faults.{Rose};
 ghost use Rattle.command_line.specs.declared.meaning.Settings.{Settings};
-ghost use Rattle.command_line.specs.Settings.{HasNoSettings, HasSettings};
-ghost use Rattle.mtrace_app.specs.Answer.{IsWritten, line_of_answer, status_of};
-ghost use Rattle.mtrace_app.specs.Causes.{IsCaused, TellsStatus, Writes};
-ghost use Rattle.mtrace_app.specs.Complete.{IsAnswered};
-ghost use Rattle.mtrace_app.specs.Reading.{IsPastLimit, IsRestOf, WhereTold};
-ghost use Rattle.mtrace_app.specs.Status.{message};
-ghost use Rattle.mtrace_app.specs.Words.{IsCheck, texts};
-ghost use Rattle.mtrace_app.specs.Writing.{AppendsFront};
+ghost use Rattle.command_line.specs.Settings.{HasSettings};
+ghost use Rattle.mtrace_app.specs.declared.refusal.Refusal.{Refusal};
+ghost use Rattle.mtrace_app.specs.Answering.{IsPut, answer_line};
+ghost use Rattle.mtrace_app.specs.Answers.{IsAnswered, IsDue, IsDueByWords, texts};
+ghost use Rattle.mtrace_app.specs.Outputs.{input_of};
+ghost use Rattle.mtrace_app.specs.Outside.{change, IsPastLimit, IsRestOf, IsTold, WhereTold};
+ghost use Rattle.mtrace_app.specs.Refusals.{message, status_of};
+ghost use Rattle.mtrace_app.specs.Status.{EndsWith};
 
-use crate::answer::Answer;
-use crate::answering::answer;
-use crate::status::{Status, message};
+use crate::answer::{Answer, answer_words};
+use crate::status::Status;
 use crate::writing::put_all;
 use mt_base::{Gate, Sink, Source};
 use std::alloc::Global;
@@ -33,75 +32,60 @@ pub fn mtrace<S: Source, K: Sink, E: Sink, G: Gate + Sync>(
     errs: &mut E,
     gate: &G,
 ) -> Status
-    // Words without settings are refused at once, and a command that isn't built is told to be so.
-    ensures words { HasNoSettings (texts words.now) →
-        ((result ≡ Status.Words) ⊎ (result ≡ Status.Memory)) × (source.new ≡ source.old)
-        × Keeps (K.held sink.old) (K.held sink.new) }
-    ensures not_built { (s : Settings) → HasSettings (texts words.now) s → ¬ (IsCheck s)
-        → ((result ≡ Status.NotBuilt) ⊎ (result ≡ Status.Memory)) × (source.new ≡ source.old) × Keeps (K.held sink.old) (K.held sink.new) }
+    // Each answer has its cause, and by it what the sink gets and the line for the errors. Want of memory needs no cause.
+    // A fault of the errors changes no status.
+    ensures answered { (line : List ℕ)
+        × IsAnswered (texts words.now)
+        (change (S.left source.old) (S.left source.new) (S.faults source.old) (S.faults source.new))
+        (change (K.held sink.old) (K.held sink.new) (K.faults sink.old) (K.faults sink.new)) result line
+        × IsTold line (change (E.held errs.old) (E.held errs.new) (E.faults errs.old) (E.faults errs.new)) }
 
-    // `check`: each answer has its cause. Want of memory needs none.
-    ensures caused { (s : Settings) → HasSettings (texts words.now) s → IsCheck s →
-        IsCaused s.model s.chunk (S.left source.old) (S.left source.new) result }
+    // What the words alone are refused for is answered before anything is taken or put.
+    ensures by_words { (refusal : Refusal) → IsDueByWords (texts words.now) refusal → EndsWith result (status_of refusal) × (source.new ≡ source.old) × Keeps (K.held sink.old) (K.held sink.new) }
+
+    // Bytes within the limit that are taken without a fault are answered by what they mean.
+    // Nothing but want of memory keeps that back.
+    ensures complete { (s : Settings) → HasSettings (texts words.now) s
+        → ¬ (Rose (S.faults source.old) (S.faults source.new))
+        → IfSome (input_of s (S.left source.old)) (λ bytes. length bytes ≤ 2 ^ 30
+        → IsDue s bytes (change (K.held sink.old) (K.held sink.new) (K.faults sink.old) (K.faults sink.new)) result) }
     ensures too_large { WhereTold (S.left source.old) (S.left source.new) (λ before now. IsPastLimit before now → result ≡ Status.TooLarge) }
-    ensures read_fault { result ≡ Status.ReadFault →
-        Rose (S.faults source.old) (S.faults source.new) }
-    ensures write_fault { result ≡ Status.WriteFault →
-        Rose (K.faults sink.old) (K.faults sink.new) }
+
+    // No more is taken than is asked for, and no count of faults falls.
     ensures rest { IsRestOf (S.left source.old) (S.left source.new) }
     ensures source_later { S.faults source.old ≤ S.faults source.new }
-
-    // `check`: bytes within the limit that are read without a fault are answered by what they say.
-    // Nothing but want of memory keeps that back.
-    ensures complete { (s : Settings) → HasSettings (texts words.now) s → IsCheck s
-        → ¬ (Rose (S.faults source.old) (S.faults source.new))
-        → IfSome (S.left source.old) (λ bytes. length bytes ≤ 2 ^ 30
-        → IsAnswered s.chunk bytes (K.faults sink.old) (K.faults sink.new) result) }
-
-    // The sink gets the report of the recorded runs, or a front of it where it fails, or nothing.
-    ensures report { (s : Settings) → HasSettings (texts words.now) s → IsCheck s →
-        Writes s.model s.chunk (S.left source.old) (K.held sink.old) (K.held sink.new) result }
     ensures sink_later { K.faults sink.old ≤ K.faults sink.new }
-
-    // The errors get the status's line, or its front where they fail. That changes no status.
-    ensures line { ¬ (Rose (E.faults errs.old) (E.faults errs.new))
-        → (told : List ℕ) × TellsStatus (S.left source.old) (S.left source.new) result told × Appends (E.held errs.old) (E.held errs.new) told }
-    ensures front { (told : List ℕ)
-        × TellsStatus (S.left source.old) (S.left source.new) result told
-        × AppendsFront (E.held errs.old) (E.held errs.new) told }
     ensures errs_later { E.faults errs.old ≤ E.faults errs.new }
 {
-    let answer = answer(alloc, words, source);
-    let status = write_report(&answer, sink);
+    let answer = answer_words(alloc, words, source);
+    let status = put_output(&answer, sink);
     let _ = put_all(errs, told(&answer, status));
     status
 }
 
-/// Puts the report, if there is one, to the sink, and gives the status.
-fn write_report<K: Sink>(answer: &Answer, sink: &mut K) -> Status
-    requires { status_of answer.now ≢ Status.WriteFault }
-    ensures written { IsWritten answer.now (K.held sink.old) (K.held sink.new) result }
-    ensures fault { result ≡ Status.WriteFault → Rose (K.faults sink.old) (K.faults sink.new) }
+/// Puts the output, if there is one, to the sink, and gives the status.
+fn put_output<K: Sink>(answer: &Answer, sink: &mut K) -> Status
+    ensures put { IsPut answer.now (change (K.held sink.old) (K.held sink.new) (K.faults sink.old) (K.faults sink.new)) result }
     ensures later { K.faults sink.old ≤ K.faults sink.new }
 {
     match answer {
-        Answer::Report { text, .. } => match put_all(sink, text) {
-            Ok(()) => answer.status(),
+        Answer::Made(output) => match put_all(sink, &output.text) {
+            Ok(()) if output.is_clean => Status::Clean,
+            Ok(()) => Status::Found,
             Err(_) => Status::WriteFault,
         },
-        Answer::Refused(_) => Status::Input,
-        Answer::PastLimits(_) => Status::TooLarge,
-        Answer::Ended(status) => *status,
+        Answer::Refused { refusal, .. } => refusal.status(),
+        Answer::NoMemory => Status::Memory,
     }
 }
 
 /// The line that tells how the call ends.
 fn told(answer: &Answer, status: Status) -> &[u8]
-    ensures failed { status ≡ Status.WriteFault → result.now ≡ message Status.WriteFault }
-    ensures other { status ≢ Status.WriteFault → result.now ≡ line_of_answer answer.now }
+    ensures failed { status ≡ Status.WriteFault → result.now ≡ message (codes "write fault") }
+    ensures other { status ≢ Status.WriteFault → result.now ≡ answer_line answer.now }
 {
     match status {
-        Status::WriteFault => message(status),
+        Status::WriteFault => b"mtrace: write fault\n",
         _ => answer.line(),
     }
 }

@@ -2,7 +2,7 @@
 ghost use Rattle.std.specs.Prelude.{◌≡◌, ◌≤◌, ◌^◌, ◌↔◌, IfOk, IfSome, OnOk, IsErrOf, vec_len};
 ghost use Rattle.std.specs.Io.KnownBytes.{IsAtEnd};
 ghost use Rattle.mt_base.specs.Faults.{Rose};
-ghost use Rattle.mtrace_app.specs.Reading.{IsRestOf, WhereTold, IsPastLimit};
+ghost use Rattle.mtrace_app.specs.Outside.{IsRestOf, WhereTold, IsPastLimit};
 ghost use Rattle.mtrace_app.specs.declared.reading.ReadError.TheVariants.{Memory};
 
 use mt_base::{Source, Take};

@@ -1,5 +1,5 @@
 //! Reads the recorded runs of an input, and counts their outcomes.
-ghost use Rattle.std.specs.Prelude.{◌≡◌, ℕ, ◌+◌, ◌*◌, ◌^◌, ◌<◌, ◌≤◌, List, [], ◌∷◌, ◌++◌, length, Ok, IsTrue, ◌↔◌, IfOk, IfErr, OnOk};
+ghost use Rattle.std.specs.Prelude.{◌≡◌, ℕ, ◌+◌, ◌^◌, ◌<◌, ◌≤◌, List, [], ◌∷◌, ◌++◌, length, Ok, IfOk, IfErr, OnOk};
 ghost use Rattle.tally.specs.declared.outcome.Outcome.{Outcome};
 ghost use Rattle.tally.specs.Counting.{HasCounted};
 ghost use Rattle.tally.specs.Tallies.{total_of};
@@ -7,14 +7,15 @@ ghost use Rattle.test_lang.specs.Signatures.{groups};
 ghost use Rattle.test_lang.specs.Values.{load_count};
 ghost use Rattle.run_text.specs.Runs.{reading, ReadsOn};
 ghost use Rattle.signature_plan.specs.Outcomes.{outcome_of};
-ghost use Rattle.mtrace_app.specs.Counted.{IsCounted, IsUnread, IsUnreadBehind};
-ghost use Rattle.mtrace_app.specs.Input.{FitLimits};
-ghost use Rattle.mtrace_app.specs.Report.{AreMeant};
-ghost use Rattle.verdict_report.specs.Lines.{signatures};
-ghost use Rattle.mtrace_app.specs.Recorded.{IsRecorded, text_behind};
+ghost use Rattle.mtrace_app.specs.declared.refusal.InputFault.{InputFault};
+ghost use Rattle.mtrace_app.specs.Counted.{AreCountedWithin, FailsBehind};
+ghost use Rattle.mtrace_app.specs.Failures.{IfRefused};
+ghost use Rattle.mtrace_app.specs.Inputs.{AreRecordedRuns, AreRefusedRecords, text_behind};
+ghost use Rattle.mtrace_app.specs.Limits.{FitLimits};
 
-use crate::unread::Unread;
-use command_line::MAX_RUNS;
+use crate::failure::Failure;
+use crate::limits::fit_limits;
+use crate::refusal::Refusal;
 use run_text::fault::RunFault;
 use run_text::run_lines::RunLines;
 use signature_plan::Plan;
@@ -22,34 +23,15 @@ use std::alloc::{AllocError, Global};
 use tally::{Counter, Tally};
 use test_lang::test::Test;
 
-/// The most values that the runs of an input may have in all.
-pub(crate) const MAX_VALUES: u64 = 67_108_864;
-
-/// A test, and the runs that were recorded of it.
+/// A test, and the runs behind it that were read and counted.
 #[derive(Drop)]
-pub(crate) struct Recorded {
+pub(crate) struct RunsRead {
     pub(crate) test: Test,
     pub(crate) plan: Plan,
     /// The number of the runs.
     pub(crate) runs: u64,
     /// How often each outcome occurred; where the runs pass a limit, only among the first of them.
     pub(crate) tally: Tally,
-}
-
-/// The number of runs that were read, and their tally, as far as the limits go.
-#[derive(Drop)]
-struct Counted {
-    runs: u64,
-    tally: Tally,
-}
-
-/// Whether so many runs of so many values each are within the limits.
-fn fit_limits(runs: u64, loads: u64) -> bool
-    requires runs { runs < 2 ^ 32 }
-    requires loads { loads ≤ 2048 }
-    ensures { IsTrue result ↔ FitLimits runs loads }
-{
-    runs <= MAX_RUNS && runs * loads <= MAX_VALUES
 }
 
 /// Reads the next run into the buffer, if there is one.
@@ -90,13 +72,13 @@ fn count_run(
 }
 
 /// Reads all runs of a text, and counts their outcomes as far as the limits go. No run is kept.
-fn count_runs(alloc: Global, plan: &Plan, text: &[u8], line: u32) -> Result<Counted, Unread>
+fn count_runs(alloc: Global, plan: &Plan, text: &[u8], line: u32) -> Result<(u64, Tally), Failure>
     requires { line + length text.now < 2 ^ 32 }
     ensures ok { IfOk result (λ counted. (runs : List (List ℕ))
         × (reading (text_behind plan.now line text.now) ≡ Ok runs)
-        × IsCounted plan.now runs counted.runs counted.tally) }
-    ensures few { IfOk result (λ counted. counted.runs ≤ length text.now) }
-    ensures err { IfErr result (IsUnreadBehind (text_behind plan.now line text.now)) }
+        × AreCountedWithin plan.now runs counted.0 counted.1) }
+    ensures few { IfOk result (λ counted. counted.0 ≤ length text.now) }
+    ensures err { IfErr result (FailsBehind (text_behind plan.now line text.now)) }
 {
     let mut run = Vec::with_capacity(alloc, plan.loads())?;
     let mut words = vec![in alloc; 0u64; plan.words()]?;
@@ -107,31 +89,27 @@ fn count_runs(alloc: Global, plan: &Plan, text: &[u8], line: u32) -> Result<Coun
         runs += 1;
         count_run(plan, runs, &run, &mut words, &mut counter)?;
     }
-    Ok(Counted {
-        runs,
-        tally: counter.finish()?,
-    })
+    Ok((runs, counter.finish()?))
 }
 
-/// The recorded runs of an input.
-pub(crate) fn read_input(alloc: Global, input: &[u8]) -> Result<Recorded, Unread>
+/// The test of an input, and its recorded runs.
+pub(crate) fn read_input(alloc: Global, input: &[u8]) -> Result<RunsRead, Failure>
     requires { length input.now ≤ 2 ^ 30 }
-    ensures plan { IfOk result (λ recorded. recorded.plan ≡ recorded.test) }
-    ensures ok { IfOk result (λ recorded. (runs : List (List ℕ))
-        × IsRecorded input.now recorded.test runs
-        × IsCounted recorded.test runs recorded.runs recorded.tally) }
-    ensures few { IfOk result (λ recorded. recorded.runs < 2 ^ 32) }
-    ensures meant { IfOk result (λ recorded. FitLimits recorded.runs (load_count recorded.test) →
-        AreMeant recorded.test (signatures recorded.tally)) }
-    ensures err { IfErr result (IsUnread input.now) }
+    ensures plan { IfOk result (λ read. read.plan ≡ read.test) }
+    ensures few { IfOk result (λ read. read.runs < 2 ^ 32) }
+    ensures ok { IfOk result (λ read. (runs : List (List ℕ))
+        × AreRecordedRuns input.now read.test runs
+        × AreCountedWithin read.test runs read.runs read.tally) }
+    ensures err { IfErr result (IfRefused (λ refusal. (fault : InputFault)
+        × (refusal ≡ Refusal.Input fault) × AreRefusedRecords input.now fault)) }
 {
     let read = Test::read(alloc, input)?;
     let plan = Plan::of(alloc, &read.test)?;
-    let counted = count_runs(alloc, &plan, &input[read.used..], read.lines + 1)?;
-    Ok(Recorded {
+    let (runs, tally) = count_runs(alloc, &plan, &input[read.used..], read.lines + 1)?;
+    Ok(RunsRead {
         test: read.test,
         plan,
-        runs: counted.runs,
-        tally: counted.tally,
+        runs,
+        tally,
     })
 }

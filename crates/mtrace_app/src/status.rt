@@ -1,6 +1,6 @@
-//! The status that a call ends with, and the line that tells it.
+//! The status that a call ends with.
 ghost use Rattle.std.specs.Prelude.{◌≡◌};
-ghost use Rattle.mtrace_app.specs.Status.{exit_number, message};
+ghost use Rattle.mtrace_app.specs.Status.{exit_number};
 
 /// How a call ended. The program ends with its number as exit status.
 #[derive(Clone, Copy, Debug, PartialEq, Eq)]
@@ -31,21 +31,5 @@ impl Status {
         ensures { result ≡ exit_number self }
     {
         self as u8
-    }
-}
-
-/// The line that is put to the errors with a status; empty where there is none.
-pub(crate) fn message(status: Status) -> &'static [u8]
-    ensures { result.now ≡ message status }
-{
-    match status {
-        Status::Clean | Status::Found => b"",
-        Status::Words => b"mtrace: words\n",
-        Status::Input => b"mtrace: input\n",
-        Status::ReadFault => b"mtrace: read fault\n",
-        Status::WriteFault => b"mtrace: write fault\n",
-        Status::Memory => b"mtrace: memory\n",
-        Status::TooLarge => b"mtrace: too large: bytes\n",
-        Status::NotBuilt => b"mtrace: not built\n",
     }
 }

@@ -1,8 +1,7 @@
 //! The top call over sources and sinks in memory: whole reports, refusals and their lines, and faults.
-ghost use Rattle.std.specs.Prelude.{◌≤◌, None};
+ghost use Rattle.std.specs.Prelude.{None};
 
 use super::*;
-use crate::status::message;
 use mt_base::{MemSink, MemSource, OpenGate, Source, Take};
 use std::alloc::{AllocError, Global};
 use std::process::Abort;
@@ -22,118 +21,119 @@ const STORES_AGAINST_LOADS: &str =
     "mtest 1\nwords 1\nthread\nst 0\nst 0\nthread\nld 0\nld 0\nend\n";
 
 const TWO_WRITERS: &str = "mtest 1\nwords 1\nthread\nst 0\nthread\nst 0\nthread\nld 0\nend\n";
+
+const NO_OPERATION: &str = "mtest 1\nwords 1\nthread\nend\n";
+
+const STORES_ALONE: &str = "mtest 1\nwords 1\nthread\nst 0\nthread\nst 0\nend\n";
+
 /// A store, then loads of one word and of another, in each of two threads.
 const STORE_THEN_LOAD_OF_ONE_WORD: &str =
     "mtest 1\nwords 2\nthread\nst 0\nld 0\nld 1\nthread\nst 1\nld 1\nld 0\nend\n";
 
-/// What a call writes.
-#[derive(Drop)]
-struct Written {
-    status: Status,
-    output: Vec<u8>,
-    errs: Vec<u8>,
-    left: Vec<u8>,
-}
-
-/// How a call is made: the words, the input in two parts, and how the source, the sink and the errors behave.
+/// How a source or a sink behaves: how many bytes a sink has room for, how many a call moves at most, and which calls fail.
 #[derive(Clone, Copy)]
-struct Call<'a> {
-    words: &'a [&'a str],
-    test: &'a str,
-    runs: &'a str,
+struct Manner<'a> {
+    room: usize,
     most: usize,
     fails: &'a [u32],
-    sink_room: usize,
-    sink_most: usize,
-    sink_fails: &'a [u32],
-    errs_room: usize,
-    errs_most: usize,
-    errs_fails: &'a [u32],
+}
+
+const FREE: Manner<'static> = Manner {
+    room: 100_000,
+    most: 65_536,
+    fails: &[],
+};
+
+/// How a call is made: the words, with a space between two, the input, and how the source, the sink and the errors behave.
+#[derive(Clone, Copy)]
+struct Call<'a> {
+    words: &'a str,
+    input: &'a str,
+    takes: Manner<'a>,
+    puts: Manner<'a>,
+    tells: Manner<'a>,
 }
 
 const CHECK: Call<'static> = Call {
-    words: &["check", "--chunk", "1"],
-    test: STORE_BUFFERING,
-    runs: "run 0 0\ndone\n",
-    most: 65536,
-    fails: &[],
-    sink_room: 10000,
-    sink_most: 10000,
-    sink_fails: &[],
-    errs_room: 100,
-    errs_most: 100,
-    errs_fails: &[],
+    words: "check --chunk 1",
+    input: "",
+    takes: FREE,
+    puts: FREE,
+    tells: FREE,
 };
 
-fn strings(alloc: Global, words: &[&str]) -> Result<Vec<String>, AllocError> {
-    let mut strings = Vec::new(alloc);
-    for word in words {
-        strings.push(String::from_str(alloc, *word)?)?;
-    }
-    Ok(strings)
+/// What a call leaves.
+#[derive(Drop)]
+struct Made {
+    status: Status,
+    output: Vec<u8>,
+    errs: Vec<u8>,
+    /// The source is at its end.
+    is_read: bool,
 }
 
-/// What is left, at most so many bytes; takes that fail are made again.
-fn left_of(alloc: Global, mut source: MemSource, most: usize) -> Result<Vec<u8>, AllocError> {
-    let mut left = Vec::new(alloc);
+fn words_of(alloc: Global, text: &str) -> Result<Vec<String>, AllocError> {
+    let mut words = Vec::new(alloc);
+    for word in text.split_ascii_whitespace() {
+        words.push(String::from_str(alloc, word)?)?;
+    }
+    Ok(words)
+}
+
+fn sink_of(alloc: Global, manner: &Manner<'_>) -> Result<MemSink, AllocError> {
+    MemSink::with_room(
+        alloc,
+        manner.room,
+        manner.most.max(1),
+        manner.fails.to_vec(alloc)?,
+    )
+}
+
+/// A take that fails is made again.
+fn is_at_end(mut source: MemSource) -> bool {
     let mut block = [0u8; 1];
-    for _ in 0..most {
-        if let Take::Took(_) = source.take(&mut block) {
-            left.extend_from_slice(&block)?;
+    for _ in 0..2 {
+        match source.take(&mut block) {
+            Take::End => return true,
+            Take::Took(_) => return false,
+            Take::Failed => {}
         }
     }
-    Ok(left)
+    false
 }
 
-fn source_of(alloc: Global, call: &Call<'_>) -> Result<MemSource, AllocError>
-    requires { 1 ≤ call.now.most }
-{
-    let mut bytes = call.test.as_bytes().to_vec(alloc)?;
-    bytes.extend_from_slice(call.runs.as_bytes())?;
-    Ok(MemSource::new(bytes, call.most, call.fails.to_vec(alloc)?))
-}
-
-fn make_call(
+/// The one call of all tests.
+fn status_of<S: Source>(
     rt: &(impl Threads + Sync),
     alloc: Global,
-    call: &Call<'_>,
-) -> Result<Written, AllocError>
-    requires most { 1 ≤ call.now.most }
-    requires sink_most { 1 ≤ call.now.sink_most }
-    requires errs_most { 1 ≤ call.now.errs_most }
-{
-    let words = strings(alloc, call.words)?;
-    let mut source = source_of(alloc, call)?;
-    let mut sink = MemSink::with_room(
-        alloc,
-        call.sink_room,
-        call.sink_most,
-        call.sink_fails.to_vec(alloc)?,
-    )?;
-    let mut errs = MemSink::with_room(
-        alloc,
-        call.errs_room,
-        call.errs_most,
-        call.errs_fails.to_vec(alloc)?,
-    )?;
-    let status = mtrace(
-        rt,
-        alloc,
-        &words,
-        &mut source,
-        &mut sink,
-        &mut errs,
-        &OpenGate,
+    words: &[String],
+    source: &mut S,
+    sink: &mut MemSink,
+    errs: &mut MemSink,
+) -> Status {
+    mtrace(rt, alloc, words, source, sink, errs, &OpenGate)
+}
+
+fn make(rt: &(impl Threads + Sync), alloc: Global, call: &Call<'_>) -> Result<Made, AllocError> {
+    let words = words_of(alloc, call.words)?;
+    let bytes = call.input.as_bytes().to_vec(alloc)?;
+    let mut source = MemSource::new(
+        bytes,
+        call.takes.most.max(1),
+        call.takes.fails.to_vec(alloc)?,
     );
-    Ok(Written {
+    let mut sink = sink_of(alloc, &call.puts)?;
+    let mut errs = sink_of(alloc, &call.tells)?;
+    let status = status_of(rt, alloc, &words, &mut source, &mut sink, &mut errs);
+    Ok(Made {
         status,
         output: sink.held_bytes().to_vec(alloc)?,
         errs: errs.held_bytes().to_vec(alloc)?,
-        left: left_of(alloc, source, 200)?,
+        is_read: is_at_end(source),
     })
 }
 
-/// Checks the status, the output and the line of a call, and that it leaves nothing of its input.
+/// Makes a call, and compares all that it leaves.
 fn check(
     rt: &(impl Threads + Abort + Sync),
     alloc: Global,
@@ -142,296 +142,266 @@ fn check(
     output: &str,
     line: &str,
 ) -> Result<(), Fail> {
-    if call.most == 0 || call.sink_most == 0 || call.errs_most == 0 {
-        return Err(Fail::from("a call that moves nothing"));
-    }
-    let written = make_call(rt, alloc, call)?;
-    assert_eq!(rt; written.status, status, "{0} {1}", call.test, call.runs);
-    assert_eq!(rt;
-        written.output.as_slice(),
-        output.as_bytes(),
-        "{0} {1}",
-        call.test,
-        call.runs
-    );
-    assert_eq!(rt;
-        written.errs.as_slice(),
-        line.as_bytes(),
-        "{0} {1}",
-        call.test,
-        call.runs
-    );
-    assert!(rt; written.left.is_empty(), "{0} {1}", call.test, call.runs);
+    let made = make(rt, alloc, call)?;
+    let is_read = !matches!(status, Status::Words | Status::NotBuilt | Status::ReadFault);
+    let is_same = made.status == status
+        && made.output.as_slice() == output.as_bytes()
+        && made.errs.as_slice() == line.as_bytes()
+        && (made.is_read || !is_read);
+    assert!(rt; is_same, "{0} {1}", call.words, call.input);
     Ok(())
+}
+
+/// The report on so many runs with these lines of outcomes, and so many signatures, ok and not, and outcomes outside. Each signature is a chunk.
+fn report(
+    alloc: Global,
+    model: &str,
+    runs: u32,
+    lines: &str,
+    sums: [u32; 3],
+) -> Result<String, AllocError> {
+    let [ok, cycle, outside] = sums;
+    let signatures = u64::from(ok) + u64::from(cycle);
+    format!(in alloc;
+        "mtrace 1\nmodel {model}\nruns {runs}\n{lines}\
+        sum signatures {signatures} ok {ok} cycle {cycle} outside {outside}\n\
+        work chunks {signatures} full {signatures} kept 0 resorted 0 nodes 0\n"
+    )
+}
+
+/// Runs of a test under each of these models: how many there are, the lines of their outcomes, and the sums.
+#[derive(Clone, Copy)]
+struct Row<'a> {
+    models: &'a [&'a str],
+    test: &'a str,
+    runs: &'a str,
+    count: u32,
+    lines: &'a str,
+    sums: [u32; 3],
+}
+
+const SC: &[&str] = &["sc"];
+
+const TSO: &[&str] = &["tso"];
+
+const WEAK: &[&str] = &["weak"];
+
+const STRONG: &[&str] = &["sc", "tso"];
+
+const ALL: &[&str] = &["sc", "tso", "weak"];
+
+const ROWS: [Row<'static>; 19] = [
+    // Store buffering: both loads give the initial value.
+    Row {
+        models: SC,
+        test: STORE_BUFFERING,
+        runs: "run 0 0\ndone\n",
+        count: 1,
+        lines: "sig 0000000000000000.0000000000000000 count 1 cycle 0 1 2 3\n",
+        sums: [0, 1, 0],
+    },
+    Row {
+        models: TSO,
+        test: STORE_BUFFERING,
+        runs: "run 0 0\ndone\n",
+        count: 1,
+        lines: "sig 0000000000000000.0000000000000000 count 1 ok\n",
+        sums: [1, 0, 0],
+    },
+    // All four runs, each once.
+    Row {
+        models: SC,
+        test: STORE_BUFFERING,
+        runs: "run 2 1\nrun 2 0\nrun 0 1\nrun 0 0\ndone\n",
+        count: 4,
+        lines: "sig 0000000000000000.0000000000000000 count 1 cycle 0 1 2 3\n\
+            sig 0000000000000000.0000000000000001 count 1 ok\n\
+            sig 0000000000000001.0000000000000000 count 1 ok\n\
+            sig 0000000000000001.0000000000000001 count 1 ok\n",
+        sums: [3, 1, 0],
+    },
+    // Each twice, with equal ones apart.
+    Row {
+        models: SC,
+        test: STORE_BUFFERING,
+        runs: "run 2 1\nrun 2 0\nrun 0 1\nrun 0 0\nrun 2 1\nrun 2 0\nrun 0 1\nrun 0 0\ndone\n",
+        count: 8,
+        lines: "sig 0000000000000000.0000000000000000 count 2 cycle 0 1 2 3\n\
+            sig 0000000000000000.0000000000000001 count 2 ok\n\
+            sig 0000000000000001.0000000000000000 count 2 ok\n\
+            sig 0000000000000001.0000000000000001 count 2 ok\n",
+        sums: [3, 1, 0],
+    },
+    // Message passing: the flag is seen, and the data aren't.
+    Row {
+        models: STRONG,
+        test: MESSAGE_PASSING,
+        runs: "run 2 0\ndone\n",
+        count: 1,
+        lines: "sig 0000000000000001 count 1 cycle 0 1 2 3\n",
+        sums: [0, 1, 0],
+    },
+    Row {
+        models: WEAK,
+        test: MESSAGE_PASSING,
+        runs: "run 2 0\ndone\n",
+        count: 1,
+        lines: "sig 0000000000000001 count 1 ok\n",
+        sums: [1, 0, 0],
+    },
+    // With fences: the shortest cycle leaves them out where they aren't needed.
+    Row {
+        models: STRONG,
+        test: MESSAGE_PASSING_FENCES,
+        runs: "run 2 0\ndone\n",
+        count: 1,
+        lines: "sig 0000000000000001 count 1 cycle 0 2 3 5\n",
+        sums: [0, 1, 0],
+    },
+    Row {
+        models: WEAK,
+        test: MESSAGE_PASSING_FENCES,
+        runs: "run 2 0\ndone\n",
+        count: 1,
+        lines: "sig 0000000000000001 count 1 cycle 0 1 2 3 4 5\n",
+        sums: [0, 1, 0],
+    },
+    // Two loads see two stores of another thread in the other order.
+    Row {
+        models: ALL,
+        test: STORES_AGAINST_LOADS,
+        runs: "run 2 1\ndone\n",
+        count: 1,
+        lines: "sig 0000000000000005 count 1 cycle 1 2 3\n",
+        sums: [0, 1, 0],
+    },
+    Row {
+        models: ALL,
+        test: STORES_AGAINST_LOADS,
+        runs: "run 1 2\ndone\n",
+        count: 1,
+        lines: "sig 0000000000000007 count 1 ok\n",
+        sums: [1, 0, 0],
+    },
+    // A load may pass a store of its own thread to its word.
+    Row {
+        models: TSO,
+        test: STORE_THEN_LOAD_OF_ONE_WORD,
+        runs: "run 1 0 2 0\ndone\n",
+        count: 1,
+        lines: "sig 0000000000000000.0000000000000000 count 1 ok\n",
+        sums: [1, 0, 0],
+    },
+    Row {
+        models: SC,
+        test: STORE_THEN_LOAD_OF_ONE_WORD,
+        runs: "run 1 0 2 0\ndone\n",
+        count: 1,
+        lines: "sig 0000000000000000.0000000000000000 count 1 cycle 0 2 3 5\n",
+        sums: [0, 1, 0],
+    },
+    Row {
+        models: SC,
+        test: TWO_WRITERS,
+        runs: "run 1\nrun 2\ndone\n",
+        count: 2,
+        lines: "sig 0000000000000001 count 1 ok\nsig 0000000000000002 count 1 ok\n",
+        sums: [2, 0, 0],
+    },
+    // The only candidate is the last store of its own thread.
+    Row {
+        models: SC,
+        test: OWN_STORES,
+        runs: "run 1\nrun 0\nrun 9\ndone\n",
+        count: 3,
+        lines: "outside 2 value 0 count 1\noutside 2 value 1 count 1\noutside 2 value 9 count 1\n",
+        sums: [0, 0, 3],
+    },
+    Row {
+        models: SC,
+        test: OWN_STORES,
+        runs: "run 2\nrun 4294967295\nrun 2\ndone\n",
+        count: 3,
+        lines: "sig 0000000000000000 count 2 ok\noutside 2 value 4294967295 count 1\n",
+        sums: [1, 0, 1],
+    },
+    // No operation, and no run.
+    Row {
+        models: SC,
+        test: NO_OPERATION,
+        runs: "run\ndone\n",
+        count: 1,
+        lines: "sig none count 1 ok\n",
+        sums: [1, 0, 0],
+    },
+    Row {
+        models: SC,
+        test: NO_OPERATION,
+        runs: "done\n",
+        count: 0,
+        lines: "",
+        sums: [0, 0, 0],
+    },
+    // Stores alone: no load has a word.
+    Row {
+        models: SC,
+        test: STORES_ALONE,
+        runs: "run\nrun\ndone\n",
+        count: 2,
+        lines: "sig none count 2 ok\n",
+        sums: [1, 0, 0],
+    },
+    // A chunk of more than one signature isn't asked for.
+    Row {
+        models: SC,
+        test: STORE_BUFFERING,
+        runs: "run 0 0\nrun 0 0\ndone\n",
+        count: 2,
+        lines: "sig 0000000000000000.0000000000000000 count 2 cycle 0 1 2 3\n",
+        sums: [0, 1, 0],
+    },
+];
+
+fn check_row(
+    rt: &(impl Threads + Abort + Sync),
+    alloc: Global,
+    row: &Row<'_>,
+    model: &str,
+) -> Result<(), Fail> {
+    let words = match model {
+        "sc" => "check --chunk 1",
+        "tso" => "check --chunk=1 --model=tso",
+        _ => "check --model weak --chunk 1",
+    };
+    let [_, cycle, outside] = row.sums;
+    let status = if cycle == 0 && outside == 0 {
+        Status::Clean
+    } else {
+        Status::Found
+    };
+    let input = format!(in alloc; "{0}{1}", row.test, row.runs)?;
+    let output = report(alloc, model, row.count, row.lines, row.sums)?;
+    let call = Call {
+        words,
+        input: input.as_str(),
+        ..CHECK
+    };
+    check(rt, alloc, &call, status, output.as_str(), "")?;
+    // One byte for each take, and three for each put.
+    let slow = Call {
+        takes: Manner { most: 1, ..FREE },
+        puts: Manner { most: 3, ..FREE },
+        ..call
+    };
+    check(rt, alloc, &slow, status, output.as_str(), "")
 }
 
 #[test]
 fn reports_of_runs(rt: HostRuntime) -> Result<(), Fail> {
-    let sc: &[&str] = &["check", "--chunk", "1"];
-    let tso: &[&str] = &["check", "--chunk=1", "--model=tso"];
-    let weak: &[&str] = &["check", "--model", "weak", "--chunk", "1"];
-    let rows = [
-        // Store buffering: both loads give the initial value.
-        (
-            sc,
-            STORE_BUFFERING,
-            "run 0 0\ndone\n",
-            Status::Found,
-            "mtrace 1\nmodel sc\nruns 1\n\
-            sig 0000000000000000.0000000000000000 count 1 cycle 0 1 2 3\n\
-            sum signatures 1 ok 0 cycle 1 outside 0\n\
-            work chunks 1 full 1 kept 0 resorted 0 nodes 0\n",
-        ),
-        (
-            tso,
-            STORE_BUFFERING,
-            "run 0 0\ndone\n",
-            Status::Clean,
-            "mtrace 1\nmodel tso\nruns 1\n\
-            sig 0000000000000000.0000000000000000 count 1 ok\n\
-            sum signatures 1 ok 1 cycle 0 outside 0\n\
-            work chunks 1 full 1 kept 0 resorted 0 nodes 0\n",
-        ),
-        // All four runs, each twice, with equal ones apart.
-        (
-            sc,
-            STORE_BUFFERING,
-            "run 2 1\nrun 2 0\nrun 0 1\nrun 0 0\nrun 2 1\nrun 2 0\nrun 0 1\nrun 0 0\ndone\n",
-            Status::Found,
-            "mtrace 1\nmodel sc\nruns 8\n\
-            sig 0000000000000000.0000000000000000 count 2 cycle 0 1 2 3\n\
-            sig 0000000000000000.0000000000000001 count 2 ok\n\
-            sig 0000000000000001.0000000000000000 count 2 ok\n\
-            sig 0000000000000001.0000000000000001 count 2 ok\n\
-            sum signatures 4 ok 3 cycle 1 outside 0\n\
-            work chunks 4 full 4 kept 0 resorted 0 nodes 0\n",
-        ),
-        // Message passing: the flag is seen, and the data aren't.
-        (
-            sc,
-            MESSAGE_PASSING,
-            "run 2 0\ndone\n",
-            Status::Found,
-            "mtrace 1\nmodel sc\nruns 1\n\
-            sig 0000000000000001 count 1 cycle 0 1 2 3\n\
-            sum signatures 1 ok 0 cycle 1 outside 0\n\
-            work chunks 1 full 1 kept 0 resorted 0 nodes 0\n",
-        ),
-        (
-            tso,
-            MESSAGE_PASSING,
-            "run 2 0\ndone\n",
-            Status::Found,
-            "mtrace 1\nmodel tso\nruns 1\n\
-            sig 0000000000000001 count 1 cycle 0 1 2 3\n\
-            sum signatures 1 ok 0 cycle 1 outside 0\n\
-            work chunks 1 full 1 kept 0 resorted 0 nodes 0\n",
-        ),
-        (
-            weak,
-            MESSAGE_PASSING,
-            "run 2 0\ndone\n",
-            Status::Clean,
-            "mtrace 1\nmodel weak\nruns 1\n\
-            sig 0000000000000001 count 1 ok\n\
-            sum signatures 1 ok 1 cycle 0 outside 0\n\
-            work chunks 1 full 1 kept 0 resorted 0 nodes 0\n",
-        ),
-        // With fences: the shortest cycle leaves them out where they aren't needed.
-        (
-            sc,
-            MESSAGE_PASSING_FENCES,
-            "run 2 0\ndone\n",
-            Status::Found,
-            "mtrace 1\nmodel sc\nruns 1\n\
-            sig 0000000000000001 count 1 cycle 0 2 3 5\n\
-            sum signatures 1 ok 0 cycle 1 outside 0\n\
-            work chunks 1 full 1 kept 0 resorted 0 nodes 0\n",
-        ),
-        (
-            tso,
-            MESSAGE_PASSING_FENCES,
-            "run 2 0\ndone\n",
-            Status::Found,
-            "mtrace 1\nmodel tso\nruns 1\n\
-            sig 0000000000000001 count 1 cycle 0 2 3 5\n\
-            sum signatures 1 ok 0 cycle 1 outside 0\n\
-            work chunks 1 full 1 kept 0 resorted 0 nodes 0\n",
-        ),
-        (
-            weak,
-            MESSAGE_PASSING_FENCES,
-            "run 2 0\ndone\n",
-            Status::Found,
-            "mtrace 1\nmodel weak\nruns 1\n\
-            sig 0000000000000001 count 1 cycle 0 1 2 3 4 5\n\
-            sum signatures 1 ok 0 cycle 1 outside 0\n\
-            work chunks 1 full 1 kept 0 resorted 0 nodes 0\n",
-        ),
-        // Two loads see two stores of another thread in the other order.
-        (
-            sc,
-            STORES_AGAINST_LOADS,
-            "run 2 1\ndone\n",
-            Status::Found,
-            "mtrace 1\nmodel sc\nruns 1\n\
-            sig 0000000000000005 count 1 cycle 1 2 3\n\
-            sum signatures 1 ok 0 cycle 1 outside 0\n\
-            work chunks 1 full 1 kept 0 resorted 0 nodes 0\n",
-        ),
-        (
-            tso,
-            STORES_AGAINST_LOADS,
-            "run 2 1\ndone\n",
-            Status::Found,
-            "mtrace 1\nmodel tso\nruns 1\n\
-            sig 0000000000000005 count 1 cycle 1 2 3\n\
-            sum signatures 1 ok 0 cycle 1 outside 0\n\
-            work chunks 1 full 1 kept 0 resorted 0 nodes 0\n",
-        ),
-        (
-            weak,
-            STORES_AGAINST_LOADS,
-            "run 2 1\ndone\n",
-            Status::Found,
-            "mtrace 1\nmodel weak\nruns 1\n\
-            sig 0000000000000005 count 1 cycle 1 2 3\n\
-            sum signatures 1 ok 0 cycle 1 outside 0\n\
-            work chunks 1 full 1 kept 0 resorted 0 nodes 0\n",
-        ),
-        (
-            sc,
-            STORES_AGAINST_LOADS,
-            "run 1 2\ndone\n",
-            Status::Clean,
-            "mtrace 1\nmodel sc\nruns 1\n\
-            sig 0000000000000007 count 1 ok\n\
-            sum signatures 1 ok 1 cycle 0 outside 0\n\
-            work chunks 1 full 1 kept 0 resorted 0 nodes 0\n",
-        ),
-        (
-            tso,
-            STORES_AGAINST_LOADS,
-            "run 1 2\ndone\n",
-            Status::Clean,
-            "mtrace 1\nmodel tso\nruns 1\n\
-            sig 0000000000000007 count 1 ok\n\
-            sum signatures 1 ok 1 cycle 0 outside 0\n\
-            work chunks 1 full 1 kept 0 resorted 0 nodes 0\n",
-        ),
-        (
-            weak,
-            STORES_AGAINST_LOADS,
-            "run 1 2\ndone\n",
-            Status::Clean,
-            "mtrace 1\nmodel weak\nruns 1\n\
-            sig 0000000000000007 count 1 ok\n\
-            sum signatures 1 ok 1 cycle 0 outside 0\n\
-            work chunks 1 full 1 kept 0 resorted 0 nodes 0\n",
-        ),
-        // A load may pass a store of its own thread to its word.
-        (
-            tso,
-            STORE_THEN_LOAD_OF_ONE_WORD,
-            "run 1 0 2 0\ndone\n",
-            Status::Clean,
-            "mtrace 1\nmodel tso\nruns 1\n\
-            sig 0000000000000000.0000000000000000 count 1 ok\n\
-            sum signatures 1 ok 1 cycle 0 outside 0\n\
-            work chunks 1 full 1 kept 0 resorted 0 nodes 0\n",
-        ),
-        (
-            sc,
-            STORE_THEN_LOAD_OF_ONE_WORD,
-            "run 1 0 2 0\ndone\n",
-            Status::Found,
-            "mtrace 1\nmodel sc\nruns 1\n\
-            sig 0000000000000000.0000000000000000 count 1 cycle 0 2 3 5\n\
-            sum signatures 1 ok 0 cycle 1 outside 0\n\
-            work chunks 1 full 1 kept 0 resorted 0 nodes 0\n",
-        ),
-        (
-            sc,
-            TWO_WRITERS,
-            "run 1\nrun 2\ndone\n",
-            Status::Clean,
-            "mtrace 1\nmodel sc\nruns 2\n\
-            sig 0000000000000001 count 1 ok\n\
-            sig 0000000000000002 count 1 ok\n\
-            sum signatures 2 ok 2 cycle 0 outside 0\n\
-            work chunks 2 full 2 kept 0 resorted 0 nodes 0\n",
-        ),
-        // The only candidate is the last store of its own thread.
-        (
-            sc,
-            OWN_STORES,
-            "run 1\nrun 0\nrun 9\ndone\n",
-            Status::Found,
-            "mtrace 1\nmodel sc\nruns 3\n\
-            outside 2 value 0 count 1\n\
-            outside 2 value 1 count 1\n\
-            outside 2 value 9 count 1\n\
-            sum signatures 0 ok 0 cycle 0 outside 3\n\
-            work chunks 0 full 0 kept 0 resorted 0 nodes 0\n",
-        ),
-        (
-            sc,
-            OWN_STORES,
-            "run 2\nrun 4294967295\nrun 2\ndone\n",
-            Status::Found,
-            "mtrace 1\nmodel sc\nruns 3\n\
-            sig 0000000000000000 count 2 ok\n\
-            outside 2 value 4294967295 count 1\n\
-            sum signatures 1 ok 1 cycle 0 outside 1\n\
-            work chunks 1 full 1 kept 0 resorted 0 nodes 0\n",
-        ),
-        // No operation, and no run.
-        (
-            sc,
-            "mtest 1\nwords 1\nthread\nend\n",
-            "run\ndone\n",
-            Status::Clean,
-            "mtrace 1\nmodel sc\nruns 1\n\
-            sig none count 1 ok\n\
-            sum signatures 1 ok 1 cycle 0 outside 0\n\
-            work chunks 1 full 1 kept 0 resorted 0 nodes 0\n",
-        ),
-        (
-            sc,
-            "mtest 1\nwords 1\nthread\nend\n",
-            "done\n",
-            Status::Clean,
-            "mtrace 1\nmodel sc\nruns 0\n\
-            sum signatures 0 ok 0 cycle 0 outside 0\n\
-            work chunks 0 full 0 kept 0 resorted 0 nodes 0\n",
-        ),
-        // Stores alone: no load has a word.
-        (
-            sc,
-            "mtest 1\nwords 1\nthread\nst 0\nthread\nst 0\nend\n",
-            "run\nrun\ndone\n",
-            Status::Clean,
-            "mtrace 1\nmodel sc\nruns 2\n\
-            sig none count 2 ok\n\
-            sum signatures 1 ok 1 cycle 0 outside 0\n\
-            work chunks 1 full 1 kept 0 resorted 0 nodes 0\n",
-        ),
-    ];
-    for (words, test, runs, status, output) in &rows {
-        let call = Call {
-            words: *words,
-            test: *test,
-            runs: *runs,
-            ..CHECK
-        };
-        check(&rt, rt.alloc(), &call, *status, *output, "")?;
-        // One byte for each take, and three for each put.
-        let slow = Call {
-            most: 1,
-            sink_most: 3,
-            ..call
-        };
-        check(&rt, rt.alloc(), &slow, *status, *output, "")?;
+    for row in &ROWS {
+        for model in row.models {
+            check_row(&rt, rt.alloc(), row, *model)?;
+        }
     }
     Ok(())
 }
@@ -452,14 +422,13 @@ fn signatures_of_several_words(rt: HostRuntime) -> Result<(), Fail> {
     let test = repeated(alloc, "ld 0\n", 65, "end\n")?;
     let run = repeated(alloc, " 1", 65, "\ndone\n")?;
     let input = format!(in alloc; "mtest 1\nwords 1\nthread\nst 0\nthread\n{test}run{run}")?;
+    let lines = "sig ffffffffffffffff.0000000000000001 count 1 ok\n";
+    let output = report(alloc, "sc", 1, lines, [1, 0, 0])?;
     let call = Call {
-        test: "",
-        runs: input.as_str(),
+        input: input.as_str(),
         ..CHECK
     };
-    let output = "mtrace 1\nmodel sc\nruns 1\nsig ffffffffffffffff.0000000000000001 count 1 ok\n\
-        sum signatures 1 ok 1 cycle 0 outside 0\nwork chunks 1 full 1 kept 0 resorted 0 nodes 0\n";
-    check(&rt, alloc, &call, Status::Clean, output, "")
+    check(&rt, alloc, &call, Status::Clean, output.as_str(), "")
 }
 
 #[test]
@@ -474,16 +443,26 @@ fn sixteen_threads_of_128_operations(rt: HostRuntime) -> Result<(), Fail> {
     let input = format!(in alloc; "mtest 1\nwords 1\nthread\n{stores}{threads}run{run}")?;
     // 129 candidates: nine loads fill a word, so a thread has 15 words.
     let words = repeated(alloc, ".0000000000000000", 224, "")?;
-    let output = format!(in alloc;
-        "mtrace 1\nmodel sc\nruns 1\nsig 0000000000000000{words} count 1 ok\n\
-        sum signatures 1 ok 1 cycle 0 outside 0\nwork chunks 1 full 1 kept 0 resorted 0 nodes 0\n"
-    )?;
+    let lines = format!(in alloc; "sig 0000000000000000{words} count 1 ok\n")?;
+    let output = report(alloc, "sc", 1, lines.as_str(), [1, 0, 0])?;
     let call = Call {
-        test: "",
-        runs: input.as_str(),
+        input: input.as_str(),
         ..CHECK
     };
     check(&rt, alloc, &call, Status::Clean, output.as_str(), "")
+}
+
+/// Checks that an input has no output, and ends with this status and this line.
+fn check_refused(
+    rt: &(impl Threads + Abort + Sync),
+    alloc: Global,
+    input: &str,
+    status: Status,
+    line: &str,
+) -> Result<(), Fail> {
+    let line = format!(in alloc; "mtrace: {line}\n")?;
+    let call = Call { input, ..CHECK };
+    check(rt, alloc, &call, status, "", line.as_str())
 }
 
 #[test]
@@ -491,307 +470,290 @@ fn limits_on_runs_and_values(rt: HostRuntime) -> Result<(), Fail> {
     let alloc = rt.alloc();
     let test = "mtest 1\nwords 1\nthread\nst 0\nend\n";
     let runs = repeated(alloc, "run\n", 1_000_000, "done\n")?;
-    let call = Call {
-        test,
-        runs: runs.as_str(),
-        ..CHECK
-    };
-    let output = "mtrace 1\nmodel sc\nruns 1000000\nsig none count 1000000 ok\n\
-        sum signatures 1 ok 1 cycle 0 outside 0\nwork chunks 1 full 1 kept 0 resorted 0 nodes 0\n";
-    check(&rt, alloc, &call, Status::Clean, output, "")?;
-    let more = format!(in alloc; "run\n{runs}")?;
-    let call = Call {
-        test,
-        runs: more.as_str(),
-        ..CHECK
-    };
-    check(
-        &rt,
+    let million = format!(in alloc; "{test}{runs}")?;
+    let output = report(
         alloc,
-        &call,
-        Status::TooLarge,
-        "",
-        "mtrace: too large: runs 1000001\n",
+        "sc",
+        1_000_000,
+        "sig none count 1000000 ok\n",
+        [1, 0, 0],
     )?;
+    let call = Call {
+        input: million.as_str(),
+        ..CHECK
+    };
+    check(&rt, alloc, &call, Status::Clean, output.as_str(), "")?;
+    let more = format!(in alloc; "{test}run\n{runs}")?;
+    let large = Status::TooLarge;
+    check_refused(&rt, alloc, more.as_str(), large, "too large: runs 1000001")?;
     // A bad line behind the last run that fits is still refused.
-    let bad = format!(in alloc; "run\n{runs}x")?;
-    let call = Call {
-        test,
-        runs: bad.as_str(),
-        ..CHECK
-    };
-    check(
-        &rt,
-        alloc,
-        &call,
-        Status::Input,
-        "",
-        "mtrace: input line 1000008: AfterDone\n",
-    )?;
-    let test = repeated(alloc, "ld 0\n", 2048, "end\n")?;
-    let test = format!(in alloc; "mtest 1\nwords 1\nthread\n{test}")?;
+    let bad = format!(in alloc; "{more}x")?;
+    let reason = "input line 1000008: AfterDone";
+    check_refused(&rt, alloc, bad.as_str(), Status::Input, reason)?;
+    let loads = repeated(alloc, "ld 0\n", 2048, "end\n")?;
     let run = repeated(alloc, " 0", 2048, "\n")?;
     let run = format!(in alloc; "run{run}")?;
     let runs = repeated(alloc, run.as_str(), 32769, "done\n")?;
-    let call = Call {
-        test: test.as_str(),
-        runs: runs.as_str(),
-        ..CHECK
-    };
-    check(
+    let values = format!(in alloc; "mtest 1\nwords 1\nthread\n{loads}{runs}")?;
+    check_refused(
         &rt,
         alloc,
-        &call,
-        Status::TooLarge,
-        "",
-        "mtrace: too large: values 67110912\n",
+        values.as_str(),
+        large,
+        "too large: values 67110912",
     )
 }
 
+const REFUSED_TESTS: [(&str, &str); 8] = [
+    ("", "1: NoEnd"),
+    ("mtest 2\n", "1: BadHead"),
+    ("mtest 1\r\n", "1: BadHead"),
+    ("mtest 1\nwords 257\n", "2: BadWords"),
+    ("mtest 1\nwords 1\nst 0\n", "3: NoThread"),
+    ("mtest 1\nwords 2\nthread\nst 0", "4: NoEnd"),
+    ("mtest 1\nwords 1\nthread\nld 00\n", "4: BadLine"),
+    (
+        "mtest 1\nwords 2\nthread\nst 0\nld 2\nend\n",
+        "5: WordRange",
+    ),
+];
+
+/// Behind store buffering.
+const REFUSED_RUNS: [(&str, &str); 10] = [
+    ("", "10: NoDone"),
+    ("run 0\ndone\n", "10: WrongCount want 2 got 1"),
+    ("run 0 0 0\ndone\n", "10: WrongCount want 2 got 3"),
+    ("run 0 4294967296\ndone\n", "10: ValueRange"),
+    ("run 0 0\n", "11: NoDone"),
+    ("run 0 0\ndone\n\n", "12: AfterDone"),
+    ("run 0 0\nrun  0 0\ndone\n", "11: BadRunLine"),
+    ("run 0 0\nrun 0 01\ndone\n", "11: BadRunLine"),
+    ("run 0 0\r\ndone\n", "10: BadRunLine"),
+    ("run 0 0\nrun 0 0\ndone", "12: NoDone"),
+];
+
 #[test]
 fn refused_inputs(rt: HostRuntime) -> Result<(), Fail> {
-    let rows = [
-        ("", "", "line 1: NoEnd"),
-        ("mtest 2\n", "", "line 1: BadHead"),
-        ("mtest 1\r\n", "", "line 1: BadHead"),
-        ("mtest 1\nwords 257\n", "", "line 2: BadWords"),
-        ("mtest 1\nwords 1\nst 0\n", "", "line 3: NoThread"),
-        ("mtest 1\nwords 2\nthread\nst 0", "", "line 4: NoEnd"),
-        ("mtest 1\nwords 1\nthread\nld 00\n", "", "line 4: BadLine"),
-        (
-            "mtest 1\nwords 2\nthread\nst 0\nld 2\nend\n",
-            "",
-            "line 5: WordRange",
-        ),
-        (STORE_BUFFERING, "", "line 10: NoDone"),
-        (
-            STORE_BUFFERING,
-            "run 0\ndone\n",
-            "line 10: WrongCount want 2 got 1",
-        ),
-        (
-            STORE_BUFFERING,
-            "run 0 0 0\ndone\n",
-            "line 10: WrongCount want 2 got 3",
-        ),
-        (
-            STORE_BUFFERING,
-            "run 0 4294967296\ndone\n",
-            "line 10: ValueRange",
-        ),
-        (STORE_BUFFERING, "run 0 0\n", "line 11: NoDone"),
-        (STORE_BUFFERING, "run 0 0\ndone\n\n", "line 12: AfterDone"),
-        (
-            STORE_BUFFERING,
-            "run 0 0\nrun  0 0\ndone\n",
-            "line 11: BadRunLine",
-        ),
-        (
-            STORE_BUFFERING,
-            "run 0 0\nrun 0 01\ndone\n",
-            "line 11: BadRunLine",
-        ),
-        (STORE_BUFFERING, "run 0 0\r\ndone\n", "line 10: BadRunLine"),
-        (STORE_BUFFERING, "run 0 0\nrun 0 0\ndone", "line 12: NoDone"),
-    ];
-    for (test, runs, reason) in rows {
-        let line = format!(in rt.alloc(); "mtrace: input {reason}\n")?;
-        let call = Call {
-            test,
-            runs,
-            ..CHECK
-        };
-        check(&rt, rt.alloc(), &call, Status::Input, "", line.as_str())?;
-    }
-    Ok(())
-}
-
-#[test]
-fn too_many_threads_and_operations(rt: HostRuntime) -> Result<(), Fail> {
     let alloc = rt.alloc();
     let threads = repeated(alloc, "thread\n", 17, "")?;
-    let many_threads = format!(in alloc; "mtest 1\nwords 1\n{threads}")?;
+    let threads = format!(in alloc; "mtest 1\nwords 1\n{threads}")?;
     let operations = repeated(alloc, "fence\n", 2049, "")?;
-    let many_operations = format!(in alloc; "mtest 1\nwords 1\nthread\n{operations}")?;
-    let rows = [
-        (many_threads.as_str(), "line 19: TooManyThreads"),
-        (many_operations.as_str(), "line 2052: TooManyOps"),
+    let operations = format!(in alloc; "mtest 1\nwords 1\nthread\n{operations}")?;
+    let many = [
+        (threads.as_str(), "19: TooManyThreads"),
+        (operations.as_str(), "2052: TooManyOps"),
     ];
-    for (test, reason) in rows {
-        let line = format!(in alloc; "mtrace: input {reason}\n")?;
-        let call = Call {
-            test,
-            runs: "",
-            ..CHECK
-        };
-        check(&rt, alloc, &call, Status::Input, "", line.as_str())?;
+    for (input, reason) in REFUSED_TESTS.iter().chain(many.iter()) {
+        let line = format!(in alloc; "input line {reason}")?;
+        check_refused(&rt, alloc, *input, Status::Input, line.as_str())?;
+    }
+    for (runs, reason) in &REFUSED_RUNS {
+        let input = format!(in alloc; "{STORE_BUFFERING}{runs}")?;
+        let line = format!(in alloc; "input line {reason}")?;
+        check_refused(&rt, alloc, input.as_str(), Status::Input, line.as_str())?;
     }
     Ok(())
 }
 
-const REFUSED_WORDS: [&[&str]; 5] = [
-    &[],
-    &["check", "--chunk", "0"],
-    &["verify"],
-    &["check", "--seed", "007"],
-    &["--help"],
+const WORDS: [(&str, Status, &str); 8] = [
+    ("", Status::Words, "mtrace: words\n"),
+    ("check --chunk 0", Status::Words, "mtrace: words\n"),
+    ("verify", Status::Words, "mtrace: words\n"),
+    ("check --seed 007", Status::Words, "mtrace: words\n"),
+    ("--help", Status::Words, "mtrace: words\n"),
+    ("run", Status::NotBuilt, "mtrace: not built\n"),
+    ("demo --model tso", Status::NotBuilt, "mtrace: not built\n"),
+    ("generate --seed 1", Status::NotBuilt, "mtrace: not built\n"),
 ];
-
-const UNBUILT_WORDS: [&[&str]; 3] = [
-    &["run"],
-    &["demo", "--model", "tso"],
-    &["generate", "--seed", "1"],
-];
-
-/// Checks words that are answered before anything is read.
-fn check_words(
-    rt: &(impl Threads + Abort + Sync),
-    alloc: Global,
-    words: &[&str],
-    status: Status,
-    line: &str,
-) -> Result<(), Fail> {
-    let call = Call { words, ..CHECK };
-    let made = make_call(rt, alloc, &call)?;
-    assert_eq!(rt; made.status, status);
-    assert_eq!(rt; made.errs.as_slice(), line.as_bytes());
-    assert!(rt; made.output.is_empty() && !made.left.is_empty());
-    Ok(())
-}
 
 #[test]
 fn words_and_what_is_not_built(rt: HostRuntime) -> Result<(), Fail> {
-    for words in REFUSED_WORDS {
-        check_words(&rt, rt.alloc(), words, Status::Words, "mtrace: words\n")?;
-    }
-    for words in UNBUILT_WORDS {
-        check_words(
-            &rt,
-            rt.alloc(),
-            words,
-            Status::NotBuilt,
-            "mtrace: not built\n",
-        )?;
+    let alloc = rt.alloc();
+    let input = format!(in alloc; "{STORE_BUFFERING}run 0 0\ndone\n")?;
+    for (words, status, line) in &WORDS {
+        let call = Call {
+            words: *words,
+            input: input.as_str(),
+            ..CHECK
+        };
+        check(&rt, alloc, &call, *status, "", *line)?;
+        // Nothing is taken.
+        assert!(rt; !make(&rt, alloc, &call)?.is_read);
     }
     // Several signatures in a chunk aren't built, and one alone is.
+    let several = format!(in alloc; "{STORE_BUFFERING}run 0 0\nrun 0 1\ndone\n")?;
     let call = Call {
-        words: &["check"],
-        runs: "run 0 0\nrun 0 1\ndone\n",
+        words: "check",
+        input: several.as_str(),
         ..CHECK
     };
-    check(
-        &rt,
-        rt.alloc(),
-        &call,
-        Status::NotBuilt,
-        "",
-        "mtrace: not built\n",
-    )?;
+    let line = "mtrace: not built\n";
+    check(&rt, alloc, &call, Status::NotBuilt, "", line)?;
+    assert!(rt; make(&rt, alloc, &call)?.is_read);
+    let lines = "sig 0000000000000000.0000000000000000 count 1 cycle 0 1 2 3\n";
+    let output = report(alloc, "sc", 1, lines, [0, 1, 0])?;
     let call = Call {
-        words: &["check"],
+        words: "check",
+        input: input.as_str(),
         ..CHECK
     };
-    let output =
-        "mtrace 1\nmodel sc\nruns 1\nsig 0000000000000000.0000000000000000 count 1 cycle 0 1 2 3\n\
-        sum signatures 1 ok 0 cycle 1 outside 0\nwork chunks 1 full 1 kept 0 resorted 0 nodes 0\n";
-    check(&rt, rt.alloc(), &call, Status::Found, output, "")
+    check(&rt, alloc, &call, Status::Found, output.as_str(), "")
 }
 
 #[test]
-fn faults_of_reading_and_writing(rt: HostRuntime) -> Result<(), Fail> {
+fn faults_of_reading(rt: HostRuntime) -> Result<(), Fail> {
     let alloc = rt.alloc();
-    // One byte for each take, and the sixth fails.
+    let input = format!(in alloc; "{STORE_BUFFERING}run 0 0\ndone\n")?;
+    // Seventy thousand bytes, which are taken by blocks of 4,096: the eighteenth take gives the last of them.
+    let runs = repeated(alloc, "run 0 0\n", 8743, "done\n")?;
+    let long = format!(in alloc; "{STORE_BUFFERING}{runs}")?;
+    let rows: [(&str, usize, &[u32]); 6] = [
+        (input.as_str(), 1, &[5]),
+        // The take that would tell the end fails.
+        (input.as_str(), 65_536, &[1]),
+        (long.as_str(), 4096, &[0]),
+        (long.as_str(), 4096, &[8]),
+        (long.as_str(), 4096, &[17]),
+        (long.as_str(), 4096, &[18]),
+    ];
+    for (input, most, fails) in rows {
+        let call = Call {
+            input,
+            takes: Manner {
+                room: 0,
+                most,
+                fails,
+            },
+            ..CHECK
+        };
+        let line = "mtrace: read fault\n";
+        check(&rt, alloc, &call, Status::ReadFault, "", line)?;
+    }
+    // A take that would come behind the end fails nothing.
+    let lines = "sig 0000000000000000.0000000000000000 count 8743 cycle 0 1 2 3\n";
+    let output = report(alloc, "sc", 8743, lines, [0, 1, 0])?;
     let call = Call {
-        most: 1,
-        fails: &[5],
+        input: long.as_str(),
+        takes: Manner {
+            room: 0,
+            most: 4096,
+            fails: &[19],
+        },
         ..CHECK
     };
-    let made = make_call(&rt, alloc, &call)?;
-    assert_eq!(rt; made.status, Status::ReadFault);
-    assert_eq!(rt; made.errs.as_slice(), b"mtrace: read fault\n".as_slice());
-    assert!(rt; made.output.is_empty());
-    // The take that would tell the end fails.
+    check(&rt, alloc, &call, Status::Found, output.as_str(), "")
+}
+
+#[test]
+fn faults_of_writing(rt: HostRuntime) -> Result<(), Fail> {
+    let alloc = rt.alloc();
+    let input = format!(in alloc; "{STORE_BUFFERING}run 0 0\ndone\n")?;
+    let lines = "sig 0000000000000000.0000000000000000 count 1 cycle 0 1 2 3\n";
+    let output = report(alloc, "sc", 1, lines, [0, 1, 0])?;
+    // The report has 173 bytes.
+    let rows: [(usize, usize, &[u32], usize); 5] = [
+        // Eight bytes for each put, and the second fails.
+        (10_000, 8, &[1], 8),
+        (10_000, 8, &[0], 0),
+        // A room that is too small.
+        (20, 20, &[], 20),
+        // The last put fails.
+        (10_000, 8, &[21], 168),
+        (172, 10_000, &[], 172),
+    ];
+    for (room, most, fails, written) in rows {
+        let call = Call {
+            input: input.as_str(),
+            puts: Manner { room, most, fails },
+            ..CHECK
+        };
+        let made = make(&rt, alloc, &call)?;
+        assert!(rt; made.status == Status::WriteFault);
+        assert!(rt; made.errs.as_slice() == b"mtrace: write fault\n".as_slice());
+        assert!(rt; made.output.len() == written);
+        assert!(rt; output.as_bytes().starts_with(&made.output));
+    }
+    // A put that would come behind the last fails nothing.
     let call = Call {
-        fails: &[1],
+        input: input.as_str(),
+        puts: Manner {
+            room: 173,
+            most: 8,
+            fails: &[22],
+        },
         ..CHECK
     };
-    let made = make_call(&rt, alloc, &call)?;
-    assert_eq!(rt; made.status, Status::ReadFault);
-    // Eight bytes for each put, and the second fails.
-    let call = Call {
-        sink_most: 8,
-        sink_fails: &[1],
-        ..CHECK
-    };
-    check(
-        &rt,
-        alloc,
-        &call,
-        Status::WriteFault,
-        "mtrace 1",
-        "mtrace: write fault\n",
-    )?;
-    // The first put fails; a room that is too small.
-    let call = Call {
-        sink_fails: &[0],
-        ..CHECK
-    };
-    check(
-        &rt,
-        alloc,
-        &call,
-        Status::WriteFault,
-        "",
-        "mtrace: write fault\n",
-    )?;
-    let call = Call {
-        sink_room: 20,
-        sink_most: 20,
-        ..CHECK
-    };
-    check(
-        &rt,
-        alloc,
-        &call,
-        Status::WriteFault,
-        "mtrace 1\nmodel sc\nru",
-        "mtrace: write fault\n",
-    )?;
-    // A fault of the errors changes no status.
-    let call = Call {
-        runs: "run 0\ndone\n",
-        errs_most: 4,
-        errs_fails: &[2],
-        ..CHECK
-    };
-    check(&rt, alloc, &call, Status::Input, "", "mtrace: ")?;
-    let call = Call {
-        words: &[],
-        errs_fails: &[0],
-        ..CHECK
-    };
-    let made = make_call(&rt, alloc, &call)?;
-    assert_eq!(rt; made.status, Status::Words);
-    assert!(rt; made.errs.is_empty());
+    check(&rt, alloc, &call, Status::Found, output.as_str(), "")
+}
+
+#[test]
+fn faults_of_the_errors_change_no_status(rt: HostRuntime) -> Result<(), Fail> {
+    let alloc = rt.alloc();
+    let input = format!(in alloc; "{STORE_BUFFERING}run 0\ndone\n")?;
+    let rows: [(&str, usize, &[u32], Status, &str); 2] = [
+        ("check", 4, &[2], Status::Input, "mtrace: "),
+        ("", 100, &[0], Status::Words, ""),
+    ];
+    for (words, most, fails, status, line) in rows {
+        let call = Call {
+            words,
+            input: input.as_str(),
+            tells: Manner {
+                room: 100,
+                most,
+                fails,
+            },
+            ..CHECK
+        };
+        check(&rt, alloc, &call, status, "", line)?;
+    }
     Ok(())
 }
 
 #[test]
-fn each_status_has_its_number_and_its_line(rt: HostRuntime) {
-    for (status, number, line) in [
-        (Status::Clean, 0, b"".as_slice()),
-        (Status::Found, 1, b""),
-        (Status::Words, 2, b"mtrace: words\n"),
-        (Status::Input, 3, b"mtrace: input\n"),
-        (Status::ReadFault, 4, b"mtrace: read fault\n"),
-        (Status::WriteFault, 5, b"mtrace: write fault\n"),
-        (Status::Memory, 6, b"mtrace: memory\n"),
-        (Status::TooLarge, 7, b"mtrace: too large: bytes\n"),
-        (Status::NotBuilt, 8, b"mtrace: not built\n"),
-    ] {
-        assert_eq!(rt; status as u8, number);
-        assert_eq!(rt; message(status), line);
+fn each_refusal_has_its_line(rt: HostRuntime) -> Result<(), Fail> {
+    let alloc = rt.alloc();
+    let reason = Reason::WrongCount { want: 2, got: 10 };
+    let fault = InputFault { line: 7, reason };
+    let rows = [
+        (Refusal::Words, 2, "mtrace: words\n"),
+        (
+            Refusal::Input(fault),
+            3,
+            "mtrace: input line 7: WrongCount want 2 got 10\n",
+        ),
+        (Refusal::ReadFault, 4, "mtrace: read fault\n"),
+        (
+            Refusal::TooLarge(Size::Bytes),
+            7,
+            "mtrace: too large: bytes\n",
+        ),
+        (
+            Refusal::TooLarge(Size::Runs(9)),
+            7,
+            "mtrace: too large: runs 9\n",
+        ),
+        (
+            Refusal::TooLarge(Size::Values(9)),
+            7,
+            "mtrace: too large: values 9\n",
+        ),
+        (Refusal::NotBuilt, 8, "mtrace: not built\n"),
+    ];
+    for (refusal, number, text) in rows {
+        let line = refusal.line(alloc)?;
+        assert!(rt; line.as_bytes() == text.as_bytes());
+        assert!(rt; refusal.status().exit_number() == number);
     }
+    for (status, number) in [
+        (Status::Clean, 0),
+        (Status::Found, 1),
+        (Status::WriteFault, 5),
+        (Status::Memory, 6),
+    ] {
+        assert!(rt; status.exit_number() == number);
+    }
+    Ok(())
 }
 
 /// It fills every buffer with line feeds.
@@ -812,19 +774,11 @@ impl Source for LineFeeds {
 #[test]
 fn an_input_without_end_is_too_large(rt: HostRuntime) -> Result<(), Fail> {
     let alloc = rt.alloc();
-    let words = strings(alloc, &["check"])?;
-    let mut sink = MemSink::with_room(alloc, 8, 8, Vec::new(alloc))?;
-    let mut errs = MemSink::with_room(alloc, 100, 100, Vec::new(alloc))?;
-    let status = mtrace(
-        &rt,
-        alloc,
-        &words,
-        &mut LineFeeds,
-        &mut sink,
-        &mut errs,
-        &OpenGate,
-    );
-    assert_eq!(rt; status, Status::TooLarge);
-    assert_eq!(rt; errs.held_bytes(), b"mtrace: too large: bytes\n".as_slice());
+    let words = words_of(alloc, "check")?;
+    let mut sink = sink_of(alloc, &FREE)?;
+    let mut errs = sink_of(alloc, &FREE)?;
+    let status = status_of(&rt, alloc, &words, &mut LineFeeds, &mut sink, &mut errs);
+    assert!(rt; status == Status::TooLarge);
+    assert!(rt; errs.held_bytes() == b"mtrace: too large: bytes\n".as_slice());
     Ok(())
 }

@@ -2,7 +2,7 @@
 ghost use Rattle.std.specs.Prelude.{◌≤◌, OnOk, OnErr};
 ghost use Rattle.std.specs.Io.KnownBytes.{Appends};
 ghost use Rattle.mt_base.specs.Faults.{Rose};
-ghost use Rattle.mtrace_app.specs.Writing.{AppendsFront};
+ghost use Rattle.mtrace_app.specs.Outside.{AppendsFront};
 
 use mt_base::{Put, Sink};
 

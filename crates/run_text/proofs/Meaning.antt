@@ -12,7 +12,7 @@ use Rattle.run_text.specs.declared.fault.RunFault.TheVariants.{BadRunLine, Wrong
 use Rattle.run_text.specs.Parts.{all_fit}
 use Rattle.run_text.specs.RunLine.{run_values, judged, run_of}
 use Rattle.run_text.specs.Reader.{Reader, Turn, behind, end_at, run_at, line_at, turn}
-use Rattle.run_text.specs.Grammar.{AreNumerals, values_of, run_line, StartsWithRun, IsNoRunLine, ReadsRun, ReadsDone, Means}
+use Rattle.run_text.specs.Grammar.{AreNumerals, values_of, run_line, StartsWithRun, IsNoRunLine, ReadsRun, ReadsDone, CallMeans}
 use Rattle.run_text.proofs.Judging.{judged-by}
 use Rattle.run_text.proofs.RunForms.{run_values-spelled, run_values-spelling, IsLine-run_line, all_fit-true, all_fit-false, all_fit-of, all_fit-of_large}
 
@@ -31,7 +31,7 @@ IsLine-done = (λ same. absurd (omega arith), (λ same. absurd (omega arith), (�
 
 -- From the functions to the forms.
 module _ (r : Reader) where
-  end_means : (rest : List ℕ) → r.left ≡ codes "done" ++ 10 ∷ rest → Means r (end_at r rest)
+  end_means : (rest : List ℕ) → r.left ≡ codes "done" ++ 10 ∷ rest → CallMeans r (end_at r rest)
   end_means [] e = inl (record { line = e; turn = refl })
   end_means (c ∷ rest) e = (refl, c, rest, e)
 
@@ -43,7 +43,7 @@ module _ (r : Reader) where
       as_many : length vs ≡ length ns
       as_many = ap length values ∙ simp length-map
 
-      fit_means : (fit : Bool) → all_fit vs ≡ fit → length vs ≡ r.loads → Means r (run_at r rest (cond fit (Ok vs) (Err (ValueRange r.line))))
+      fit_means : (fit : Bool) → all_fit vs ≡ fit → length vs ≡ r.loads → CallMeans r (run_at r rest (cond fit (Ok vs) (Err (ValueRange r.line))))
       fit_means true e same = inr (
         ns,
         rest,
@@ -57,28 +57,28 @@ module _ (r : Reader) where
       fit_means false e same = (refl, ns, rest, starts_run, sym as_many ∙ same, all_fit-false ns (sym (ap all_fit values) ∙ e))
 
       count_means : (same : Bool) → eqb (length vs) r.loads ≡ same
-          → Means r (run_at r rest (cond same (cond (all_fit vs) (Ok vs) (Err (ValueRange r.line))) (Err (WrongCount r.line r.loads (length vs)))))
+          → CallMeans r (run_at r rest (cond same (cond (all_fit vs) (Ok vs) (Err (ValueRange r.line))) (Err (WrongCount r.line r.loads (length vs)))))
       count_means true e = fit_means (all_fit vs) refl (eqb-true (length vs) r.loads e)
       count_means false e = let apart = eqb-false (length vs) r.loads e in (refl, refl, ns, rest, starts_run, as_many, λ same. apart (as_many ∙ same))
 
-    run_means : (read : Option (List ℕ)) → run_values line ≡ read → Means r (run_at r rest (judged r.line r.loads read))
+    run_means : (read : Option (List ℕ)) → run_values line ≡ read → CallMeans r (run_at r rest (judged r.line r.loads read))
     run_means None e = (refl, line, rest, record { starts = starts; not_done = other; not_run = λ ns numerals spelled. let h = sym e ∙ ap run_values spelled ∙ run_values-spelling ns numerals in absurd cc })
     run_means (Some vs) e = let s = run_values-spelled line vs e in count_means vs s.0 s.1 s.2 s.3 (eqb (length vs) r.loads) refl
 
   line_means : (line rest : List ℕ) → StartsWithLine r.left line rest → (done : Bool) → bytes_eq line (codes "done") ≡ done
-      → Means r (cond done (end_at r rest) (run_at r rest (run_of r.line r.loads line)))
+      → CallMeans r (cond done (end_at r rest) (run_at r rest (run_of r.line r.loads line)))
   line_means line rest starts true e = end_means rest (starts.whole ∙ ap (λ (ys : List ℕ). ys ++ 10 ∷ rest) ((bytes_eq-Decides line (codes "done")).0 e))
   line_means line rest starts false e = run_means line rest starts (not_done line e) (run_values line) refl
 
-  text_means : (found : Option (List ℕ × List ℕ)) → first_line r.left ≡ found → Means r (line_at r found)
+  text_means : (found : Option (List ℕ × List ℕ)) → first_line r.left ≡ found → CallMeans r (line_at r found)
   text_means None e = (refl, first_line-none_is r.left e)
   text_means (Some l) e = line_means l.0 l.1 (first_line-starts r.left l e) (bytes_eq l.0 (codes "done")) refl
 
   pub not_ended : r.is_done ≡ false → turn r ≡ line_at r (first_line r.left)
   not_ended e = ap (λ (b : Bool). cond b (Ok (record { more = false; values = []; reader = r })) (line_at r (first_line r.left))) e
 
-  pub turn_means : r.is_done ≡ false → Means r (turn r)
-  turn_means e = subst (Means r) (sym (not_ended e)) (text_means (first_line r.left) refl)
+  pub turn_means : r.is_done ≡ false → CallMeans r (turn r)
+  turn_means e = subst (CallMeans r) (sym (not_ended e)) (text_means (first_line r.left) refl)
 
 -- From the forms to the functions.
 module _ (r : Reader) where
@@ -101,7 +101,7 @@ module _ (r : Reader) where
       go None e = refl
       go (Some vs) e = let s = run_values-spelled line vs e in absurd (h s.0 s.1 s.2)
 
-  means_text : (o : Result Turn RunFault) → Means r o → line_at r (first_line r.left) ≡ o
+  means_text : (o : Result Turn RunFault) → CallMeans r o → line_at r (first_line r.left) ≡ o
   means_text (Ok t) h = ⊎_elim
       (λ (is : ReadsDone r t). closed_by (codes "done") [] IsLine-done is.line ∙ ap Ok (sym is.turn))
       (λ (is : (ns : List (List ℕ)) × (rest : List ℕ) × ReadsRun r t ns rest).
@@ -124,5 +124,5 @@ module _ (r : Reader) where
   means_text (Err (AfterDone line)) h = closed_by (codes "done") (h.1 ∷ h.2) IsLine-done h.3 ∙ ap (λ (n : ℕ). Err (AfterDone n)) (sym h.0)
   means_text (Err Memory) h = absurd h
 
-  pub means_turn : (o : Result Turn RunFault) → r.is_done ≡ false → Means r o → turn r ≡ o
+  pub means_turn : (o : Result Turn RunFault) → r.is_done ≡ false → CallMeans r o → turn r ≡ o
   means_turn o e h = not_ended r e ∙ means_text o h

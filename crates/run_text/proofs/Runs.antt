@@ -1,10 +1,13 @@
 -- What reading all lines gives is what the text means.
 use Rattle.std.proofs.Common.{◌≡◌, ◌↔◌, ℕ, zero, suc, ◌+◌, ◌<◌, List, [], ◌∷◌, ◌++◌, Bool, true, false, refl, ap, arith, ◌∙◌, sym, subst, cond, map, Result, Ok, Err, length, append_assoc}
+use Rattle.std.specs.Prelude.{codes}
+use Rattle.std.proofs.lemmas.List.{append-nil}
 use Rattle.test_lang.specs.Text.Line.{closed}
 use Rattle.run_text.specs.declared.fault.RunFault.{RunFault}
 use Rattle.run_text.specs.Reader.{Reader, Turn, behind, turn}
-use Rattle.run_text.specs.Grammar.{Means}
-use Rattle.run_text.specs.Runs.{AreRunsOf, line_of, runs_text, with_run, with_runs, go_on, reading_by, reading, behind_lines, RunsMean}
+use Rattle.run_text.specs.Grammar.{CallMeans}
+use Rattle.run_text.specs.Runs.{AreRunsOf, line_of_run, runs_text, with_run, with_runs, go_on, reading_by, reading, IsLineOfRun, RunsMean}
+use Rattle.run_text.specs.Items.{AreLinesOf, IsTextOf}
 use Rattle.run_text.proofs.Meaning.{turn_means, means_turn}
 use Rattle.run_text.proofs.Turns.{IsRunNext, turn-run, turn-done, run-shorter, run-turn, done-turn}
 
@@ -45,6 +48,30 @@ module _ (r : Reader) where
   pub reading-refused : (fault : RunFault) → turn r ≡ Err fault → reading r ≡ Err fault
   reading-refused fault e = reading-turn r ∙ ap (go_on reading) e
 
+-- Runs and their lines.
+
+lines_of_runs : (loads : ℕ) (runs lines : List (List ℕ)) → AreLinesOf (IsLineOfRun loads) runs lines → AreRunsOf loads runs × (lines ≡ map line_of_run runs)
+lines_of_runs loads [] [] h = (tt, refl)
+lines_of_runs loads [] (line ∷ lines) h = absurd h
+lines_of_runs loads (run ∷ runs) [] h = absurd h
+lines_of_runs loads (run ∷ runs) (line ∷ lines) h =
+    let more = lines_of_runs loads runs lines h.1 in
+    ((h.0.is_run, more.0), ap (λ (l : List ℕ). l ∷ lines) h.0.text ∙ ap (λ (ls : List (List ℕ)). line_of_run run ∷ ls) more.1)
+
+runs_in_lines : (loads : ℕ) (runs : List (List ℕ)) → AreRunsOf loads runs → AreLinesOf (IsLineOfRun loads) runs (map line_of_run runs)
+runs_in_lines loads [] h = tt
+runs_in_lines loads (run ∷ runs) h = (record { is_run = h.0; text = refl }, runs_in_lines loads runs h.1)
+
+pub text_is_runs : (loads : ℕ) (runs : List (List ℕ)) (text rest : List ℕ) → IsTextOf (IsLineOfRun loads) runs text rest ↔ (AreRunsOf loads runs × (text ≡ runs_text runs ++ rest))
+text_is_runs loads runs text rest = (
+  λ h. let lines = lines_of_runs loads runs h.lines h.each in (lines.0, h.whole ∙ ap (λ (ls : List (List ℕ)). closed (ls ++ codes "done" ∷ []) ++ rest) lines.1),
+  λ h. record { lines = map line_of_run runs; each = runs_in_lines loads runs h.0; whole = h.1 },
+)
+
+-- the reader behind so many lines
+abbrev behind_lines : Reader → ℕ → List ℕ → Reader
+behind_lines r lines left = record { left = left; line = r.line + lines; loads = r.loads; is_done = false }
+
 -- From reading to meaning.
 
 at_start : (r : Reader) → r.is_done ≡ false → r ≡ behind_lines r 0 r.left
@@ -61,18 +88,19 @@ module _ (r : Reader) (t : Turn) (next : IsRunNext r t) where
   next_line = ap (λ (after : Reader). after.line) next.reader
 
   run_means : (read : Result (List (List ℕ)) RunFault) → RunsMean t.reader read → RunsMean r (with_run t.values read)
-  run_means (Ok runs) h = ((next.run, subst (λ (n : ℕ). AreRunsOf n runs) same_loads h.0), next.whole ∙ ap (λ (ys : List ℕ). line_of t.values ++ 10 ∷ ys) h.1)
+  run_means (Ok runs) h = ((next.run, subst (λ (n : ℕ). AreRunsOf n runs) same_loads h.0), next.whole ∙ ap (λ (ys : List ℕ). line_of_run t.values ++ 10 ∷ ys) h.1)
   run_means (Err fault) h =
-      let number : t.reader.line + length h.runs ≡ r.line + suc (length h.runs) = omega (arith, next_line) in
-      let same : behind_lines t.reader (length h.runs) h.bytes ≡ behind_lines r (suc (length h.runs)) h.bytes =
+      let number : t.reader.line + length h.items ≡ r.line + suc (length h.items) = omega (arith, next_line) in
+      let same : behind_lines t.reader (length h.items) h.bytes ≡ behind_lines r (suc (length h.items)) h.bytes =
       ap (λ (n : ℕ). record { left = h.bytes; line = n; loads = t.reader.loads; is_done = false }) number
-      ∙ ap (λ (n : ℕ). record { left = h.bytes; line = r.line + suc (length h.runs); loads = n; is_done = false }) same_loads in
+      ∙ ap (λ (n : ℕ). record { left = h.bytes; line = r.line + suc (length h.items); loads = n; is_done = false }) same_loads in
       record {
-        runs = t.values ∷ h.runs;
+        items = t.values ∷ h.items;
+        lines = line_of_run t.values ∷ h.lines;
         bytes = h.bytes;
-        good = (next.run, subst (λ (n : ℕ). AreRunsOf n h.runs) same_loads h.good);
-        whole = next.whole ∙ ap (λ (ys : List ℕ). line_of t.values ++ 10 ∷ ys) h.whole ∙ sym (append_assoc (line_of t.values) (10 ∷ closed (map line_of h.runs)) h.bytes);
-        bad = subst (λ (q : Reader). Means q (Err fault)) same h.bad;
+        each = (record { is_run = next.run; text = refl }, subst (λ (n : ℕ). AreLinesOf (IsLineOfRun n) h.items h.lines) same_loads h.each);
+        whole = next.whole ∙ ap (λ (ys : List ℕ). line_of_run t.values ++ 10 ∷ ys) h.whole ∙ sym (append_assoc (line_of_run t.values) (10 ∷ closed h.lines) h.bytes);
+        bad = subst (λ (q : Reader). CallMeans q (Err fault)) same h.bad;
       }
 
 text_means : (r : Reader) → r.is_done ≡ false → ((after : Reader) → length after.left < length r.left → after.is_done ≡ false → RunsMean after (reading after)) → RunsMean r (reading r)
@@ -86,11 +114,12 @@ text_means r not_done later = subst (RunsMean r) (sym (reading-turn r)) (by_turn
 
     by_turn : (o : Result Turn RunFault) → turn r ≡ o → RunsMean r (go_on reading o)
     by_turn (Err fault) e = record {
-      runs = [];
+      items = [];
+      lines = [];
       bytes = r.left;
-      good = tt;
+      each = tt;
       whole = refl;
-      bad = subst (λ (q : Reader). Means q (Err fault)) (at_start r not_done) (subst (Means r) e (turn_means r not_done));
+      bad = subst (λ (q : Reader). CallMeans q (Err fault)) (at_start r not_done) (subst (CallMeans r) e (turn_means r not_done));
     }
     by_turn (Ok t) e = by_more t e t.more refl
 
@@ -106,25 +135,36 @@ whole-read (run ∷ runs) r not_done h whole =
     reading-turn r ∙ ap (go_on reading) (run-turn r run (runs_text runs) not_done h.0 whole)
     ∙ ap (with_run run) (whole-read runs (behind r (runs_text runs) false) refl h.1 refl)
 
-refused-read : (runs : List (List ℕ)) (r : Reader) (bytes : List ℕ) (fault : RunFault) → r.is_done ≡ false → AreRunsOf r.loads runs → r.left ≡ closed (map line_of runs) ++ bytes
-    → Means (behind_lines r (length runs) bytes) (Err fault) → reading r ≡ Err fault
+refused-read : (runs : List (List ℕ)) (r : Reader) (bytes : List ℕ) (fault : RunFault) → r.is_done ≡ false → AreRunsOf r.loads runs → r.left ≡ closed (map line_of_run runs) ++ bytes
+    → CallMeans (behind_lines r (length runs) bytes) (Err fault) → reading r ≡ Err fault
 refused-read [] r bytes fault not_done h whole bad =
     let here : behind_lines r 0 bytes ≡ r = ap (λ (ys : List ℕ). behind_lines r 0 ys) (sym whole) ∙ sym (at_start r not_done) in
-    reading-refused r fault (means_turn r (Err fault) not_done (subst (λ (q : Reader). Means q (Err fault)) here bad))
+    reading-refused r fault (means_turn r (Err fault) not_done (subst (λ (q : Reader). CallMeans q (Err fault)) here bad))
 refused-read (run ∷ runs) r bytes fault not_done h whole bad =
-    let rest = closed (map line_of runs) ++ bytes in
+    let rest = closed (map line_of_run runs) ++ bytes in
     let number : r.line + suc (length runs) ≡ r.line + 1 + length runs = omega arith in
     let same : behind_lines r (suc (length runs)) bytes ≡ behind_lines (behind r rest false) (length runs) bytes =
     ap (λ (n : ℕ). record { left = bytes; line = n; loads = r.loads; is_done = false }) number in
-    reading-turn r ∙ ap (go_on reading) (run-turn r run rest not_done h.0 (whole ∙ append_assoc (line_of run) (10 ∷ closed (map line_of runs)) bytes))
-    ∙ ap (with_run run) (refused-read runs (behind r rest false) bytes fault refl h.1 refl (subst (λ (q : Reader). Means q (Err fault)) same bad))
+    reading-turn r ∙ ap (go_on reading) (run-turn r run rest not_done h.0 (whole ∙ append_assoc (line_of_run run) (10 ∷ closed (map line_of_run runs)) bytes))
+    ∙ ap (with_run run) (refused-read runs (behind r rest false) bytes fault refl h.1 refl (subst (λ (q : Reader). CallMeans q (Err fault)) same bad))
 
 mean-reading : (r : Reader) (meant : Result (List (List ℕ)) RunFault) → r.is_done ≡ false → RunsMean r meant → reading r ≡ meant
 mean-reading r (Ok runs) not_done h = whole-read runs r not_done h.0 h.1
-mean-reading r (Err fault) not_done h = refused-read h.runs r h.bytes fault not_done h.good h.whole h.bad
+mean-reading r (Err fault) not_done h =
+    let lines = lines_of_runs r.loads h.items h.lines h.each in
+    refused-read h.items r h.bytes fault not_done lines.0 (h.whole ∙ ap (λ (ls : List (List ℕ)). closed ls ++ h.bytes) lines.1) h.bad
 
 pub reading_is_meaning : (r : Reader) (meant : Result (List (List ℕ)) RunFault) → r.is_done ≡ false → (reading r ≡ meant) ↔ RunsMean r meant
 reading_is_meaning r meant not_done = (
   λ (e : reading r ≡ meant). subst (RunsMean r) e (reading-means (suc (length r.left)) r (omega arith) not_done),
   λ (h : RunsMean r meant). mean-reading r meant not_done h,
 )
+
+pub reading_is_text : (r : Reader) (runs : List (List ℕ)) → r.is_done ≡ false → (reading r ≡ Ok runs) ↔ IsTextOf (IsLineOfRun r.loads) runs r.left []
+reading_is_text r runs not_done =
+    let means = reading_is_meaning r (Ok runs) not_done in
+    let text = text_is_runs r.loads runs r.left [] in
+    let nothing = append-nil (runs_text runs) in (
+      λ e. let h = means.0 e in text.1 (h.0, h.1 ∙ sym nothing),
+      λ h. let is = text.0 h in means.1 (is.0, is.1 ∙ nothing),
+    )

@@ -9,8 +9,8 @@ use Rattle.test_lang.specs.Runs.{IsRunOf}
 use Rattle.test_lang.specs.Text.Numeral.{value, IsNumeralOf, part}
 use Rattle.test_lang.proofs.TextLemmas.Numerals.{numeral-is_decimal, decimal-numeral}
 use Rattle.run_text.specs.Reader.{Reader, Turn, behind, turn}
-use Rattle.run_text.specs.Grammar.{AreNumerals, values_of, AllFit, ReadsRun, ReadsDone, Means}
-use Rattle.run_text.specs.Runs.{line_of}
+use Rattle.run_text.specs.Grammar.{AreNumerals, values_of, AllFit, ReadsRun, ReadsDone, CallMeans}
+use Rattle.run_text.specs.Runs.{line_of_run}
 use Rattle.run_text.proofs.Meaning.{turn_means, means_turn}
 use Rattle.run_text.proofs.Ended.{turn_ended}
 
@@ -61,7 +61,7 @@ decimals-parts (v ∷ vs) = ap (λ (ys : List ℕ). part (decimal v) ++ ys) (dec
 pub record IsRunNext (r : Reader) (t : Turn) : Type 0 where
   pub not_done : r.is_done ≡ false
   pub run : IsRunOf r.loads t.values
-  pub whole : r.left ≡ line_of t.values ++ 10 ∷ t.reader.left
+  pub whole : r.left ≡ line_of_run t.values ++ 10 ∷ t.reader.left
   pub reader : t.reader ≡ behind r t.reader.left false
 
 run-next : (r : Reader) (t : Turn) → r.is_done ≡ false → ((ns : List (List ℕ)) × (rest : List ℕ) × ReadsRun r t ns rest) → IsRunNext r t
@@ -84,8 +84,8 @@ module _ (r : Reader) (t : Turn) (e : turn r ≡ Ok t) where
   turn-ended_more : r.is_done ≡ true → t.more ≡ false
   turn-ended_more done = let h = sym e ∙ turn_ended r done in let same : t ≡ record { more = false; values = []; reader = r } = cc in ap (λ (u : Turn). u.more) same
 
-  turn-means : r.is_done ≡ false → Means r (Ok t)
-  turn-means not_done = subst (Means r) e (turn_means r not_done)
+  turn-means : r.is_done ≡ false → CallMeans r (Ok t)
+  turn-means not_done = subst (CallMeans r) e (turn_means r not_done)
 
   pub turn-run : t.more ≡ true → IsRunNext r t
   turn-run more = go r.is_done refl
@@ -104,10 +104,10 @@ module _ (r : Reader) (t : Turn) (e : turn r ≡ Ok t) where
       (turn-means is)
 
 pub run-shorter : (r : Reader) (t : Turn) → IsRunNext r t → length t.reader.left < length r.left
-run-shorter r t h = let long = ap length h.whole ∙ length-append (line_of t.values) (10 ∷ t.reader.left) in omega (arith, long)
+run-shorter r t h = let long = ap length h.whole ∙ length-append (line_of_run t.values) (10 ∷ t.reader.left) in omega (arith, long)
 
 -- The other way: a line that stands next is read.
-pub run-turn : (r : Reader) (run rest : List ℕ) → r.is_done ≡ false → IsRunOf r.loads run → r.left ≡ line_of run ++ 10 ∷ rest
+pub run-turn : (r : Reader) (run rest : List ℕ) → r.is_done ≡ false → IsRunOf r.loads run → r.left ≡ line_of_run run ++ 10 ∷ rest
     → turn r ≡ Ok (record { more = true; values = run; reader = behind r rest false })
 run-turn r run rest not_done h whole =
     let ns = map decimal run in

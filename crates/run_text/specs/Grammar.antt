@@ -54,12 +54,12 @@ pub record IsBadLine (text line rest : List ℕ) : Type 0 where
   pub not_run : IsNoRunLine line
 
 -- What a call gives, where `done` was not read before.
-abbrev pub Means : Reader → Result Turn RunFault → Type 0
-Means r (Ok t) = ReadsDone r t ⊎ ((ns : List (List ℕ)) × (rest : List ℕ) × ReadsRun r t ns rest)
-Means r (Err (NoDone line)) = (line ≡ r.line) × IsLine r.left
-Means r (Err (BadRunLine line)) = (line ≡ r.line) × (form : List ℕ) × (rest : List ℕ) × IsBadLine r.left form rest
-Means r (Err (WrongCount line want got)) = (line ≡ r.line) × (want ≡ r.loads) × (ns : List (List ℕ)) × (rest : List ℕ)
+abbrev pub CallMeans : Reader → Result Turn RunFault → Type 0
+CallMeans r (Ok t) = ReadsDone r t ⊎ ((ns : List (List ℕ)) × (rest : List ℕ) × ReadsRun r t ns rest)
+CallMeans r (Err (NoDone line)) = (line ≡ r.line) × IsLine r.left
+CallMeans r (Err (BadRunLine line)) = (line ≡ r.line) × (form : List ℕ) × (rest : List ℕ) × IsBadLine r.left form rest
+CallMeans r (Err (WrongCount line want got)) = (line ≡ r.line) × (want ≡ r.loads) × (ns : List (List ℕ)) × (rest : List ℕ)
     × StartsWithRun r.left ns rest × (got ≡ length ns) × (length ns ≢ r.loads)
-Means r (Err (ValueRange line)) = (line ≡ r.line) × (ns : List (List ℕ)) × (rest : List ℕ) × StartsWithRun r.left ns rest × (length ns ≡ r.loads) × HasLarge ns
-Means r (Err (AfterDone line)) = (line ≡ r.line + 1) × (c : ℕ) × (rest : List ℕ) × (r.left ≡ codes "done" ++ 10 ∷ c ∷ rest)
-Means r (Err Memory) = ⊥
+CallMeans r (Err (ValueRange line)) = (line ≡ r.line) × (ns : List (List ℕ)) × (rest : List ℕ) × StartsWithRun r.left ns rest × (length ns ≡ r.loads) × HasLarge ns
+CallMeans r (Err (AfterDone line)) = (line ≡ r.line + 1) × (c : ℕ) × (rest : List ℕ) × (r.left ≡ codes "done" ++ 10 ∷ c ∷ rest)
+CallMeans r (Err Memory) = ⊥

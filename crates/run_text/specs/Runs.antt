@@ -1,5 +1,5 @@
 -- The text of all runs, and what reading all of a text gives.
-use Rattle.std.specs.Prelude.{◌≡◌, ◌⊎◌, ℕ, zero, suc, ◌+◌, ◌<◌, List, [], ◌∷◌, ◌++◌, map, length, Bool, true, false, Result, Ok, Err, if◌then◌else◌, codes}
+use Rattle.std.specs.Prelude.{◌≡◌, ◌⊎◌, ℕ, zero, suc, ◌<◌, List, [], ◌∷◌, ◌++◌, map, length, Bool, true, false, Result, Ok, Err, if◌then◌else◌, codes}
 use Rattle.std.specs.Fmt.{decimal}
 use Rattle.std.specs.List.{AllByRecursion, flat_map}
 use Rattle.test_lang.specs.Runs.{IsRunOf}
@@ -8,18 +8,19 @@ use Rattle.test_lang.specs.Text.Numeral.{part}
 use Rattle.run_text.specs.declared.fault.RunFault.{RunFault}
 use Rattle.run_text.specs.declared.fault.RunFault.TheVariants.{Memory}
 use Rattle.run_text.specs.Reader.{Reader, Turn, behind, turn}
-use Rattle.run_text.specs.Grammar.{Means}
+use Rattle.run_text.specs.Grammar.{CallMeans}
+use Rattle.run_text.specs.Items.{IsRefusedText}
 
 abbrev pub AreRunsOf : ℕ → List (List ℕ) → Type 0
 AreRunsOf loads runs = AllByRecursion (IsRunOf loads) runs
 
 -- the line of a run
-abbrev pub line_of : List ℕ → List ℕ
-line_of run = codes "run" ++ flat_map (λ v. part (decimal v)) run
+abbrev pub line_of_run : List ℕ → List ℕ
+line_of_run run = codes "run" ++ flat_map (λ v. part (decimal v)) run
 
 -- The text of these runs: the line of each, and then `done`.
 abbrev pub runs_text : List (List ℕ) → List ℕ
-runs_text runs = closed (map line_of runs ++ codes "done" ∷ [])
+runs_text runs = closed (map line_of_run runs ++ codes "done" ∷ [])
 
 -- Reading, call by call.
 
@@ -61,19 +62,20 @@ ReadsOn (Ok true) old new before after = IsRunRead before after old new
 ReadsOn (Ok false) old new before after = reading before ≡ Ok []
 ReadsOn (Err fault) old new before after = (fault ≡ Memory) ⊎ (reading before ≡ Err fault)
 
--- Meaning, in the words of the format.
+-- Meaning, in the words of the format: a text of items, of which each is a run.
 
--- the reader behind so many lines
-abbrev pub behind_lines : Reader → ℕ → List ℕ → Reader
-behind_lines r lines left = record { left = left; line = r.line + lines; loads = r.loads; is_done = false }
+-- the line is that of the run, which has so many values
+pub record IsLineOfRun (loads : ℕ) (run line : List ℕ) : Type 0 where
+  pub is_run : IsRunOf loads run
+  pub text : line ≡ line_of_run run
+
+-- no good line begins these bytes, and this is why; their first line has this number
+abbrev pub IsBadForRuns : ℕ → ℕ → List ℕ → RunFault → Type 0
+IsBadForRuns loads number bytes fault = CallMeans (record { left = bytes; line = number; loads = loads; is_done = false }) (Err fault)
 
 -- Good runs, and bytes behind them whose first line is bad.
-pub record IsRefused (r : Reader) (fault : RunFault) : Type 0 where
-  pub runs : List (List ℕ)
-  pub bytes : List ℕ
-  pub good : AreRunsOf r.loads runs
-  pub whole : r.left ≡ closed (map line_of runs) ++ bytes
-  pub bad : Means (behind_lines r (length runs) bytes) (Err fault)
+abbrev pub IsRefused : Reader → RunFault → Type 0
+IsRefused r fault = IsRefusedText (IsLineOfRun r.loads) (IsBadForRuns r.loads) r.line r.left fault
 
 -- What a text means: it is the text of these runs, or is refused.
 abbrev pub RunsMean : Reader → Result (List (List ℕ)) RunFault → Type 0

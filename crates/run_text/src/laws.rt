@@ -1,8 +1,9 @@
 //! Laws of texts of runs, over the definitions alone.
-ghost use Rattle.std.specs.Prelude.{◌≡◌, ◌↔◌, List, ℕ, false, Result};
+ghost use Rattle.std.specs.Prelude.{◌≡◌, ◌↔◌, ◌++◌, List, [], ℕ, false, Result, Ok, Err};
 ghost use Rattle.run_text.specs.declared.fault.RunFault.{RunFault};
 ghost use Rattle.run_text.specs.Reader.{Reader, turn};
-ghost use Rattle.run_text.specs.Runs.{go_on, reading, RunsMean};
+ghost use Rattle.run_text.specs.Items.{IsTextOf};
+ghost use Rattle.run_text.specs.Runs.{AreRunsOf, IsLineOfRun, IsRefused, RunsMean, go_on, reading, runs_text};
 
 /// Reading all lines is reading one and then those behind it.
 pub fn lines_are_read_in_turn()
@@ -11,6 +12,17 @@ pub fn lines_are_read_in_turn()
 
 /// What reading all lines gives is what the text means: the runs whose text it is, or why it is refused.
 pub fn runs_are_read()
-    ensures { (reader : Reader) (meant : Result (List (List ℕ)) RunFault) →
+    ensures read { (reader : Reader) (runs : List (List ℕ)) → reader.is_done ≡ false →
+        (reading reader ≡ Ok runs) ↔ IsTextOf (IsLineOfRun reader.loads) runs reader.left [] }
+    ensures refused { (reader : Reader) (fault : RunFault) → reader.is_done ≡ false →
+        (reading reader ≡ Err fault) ↔ IsRefused reader fault }
+    ensures meant { (reader : Reader) (meant : Result (List (List ℕ)) RunFault) →
         reader.is_done ≡ false → (reading reader ≡ meant) ↔ RunsMean reader meant }
+{}
+
+/// Runs have one text.
+pub fn runs_have_one_text()
+    ensures { (loads : ℕ) (runs : List (List ℕ)) (text rest : List ℕ) →
+        IsTextOf (IsLineOfRun loads) runs text rest
+        ↔ (AreRunsOf loads runs × (text ≡ runs_text runs ++ rest)) }
 {}

@@ -4,7 +4,7 @@ ghost use Rattle.std.specs.Bool.{OnFalse, OnTrue};
 ghost use Rattle.run_text.specs.declared.fault.RunFault.{RunFault};
 ghost use Rattle.run_text.specs.declared.fault.RunFault.TheVariants.{AfterDone};
 ghost use Rattle.run_text.specs.Reader.{Turn, Gives, turn};
-ghost use Rattle.run_text.specs.Grammar.{Means};
+ghost use Rattle.run_text.specs.Grammar.{CallMeans};
 ghost use Rattle.run_text.specs.Runs.{ReadsOn};
 
 use crate::fault::RunFault;
@@ -75,11 +75,11 @@ impl<'a> RunLines<'a> {
             (turn self.old) }
         // What is given is what the lines mean.
         ensures found { OnFalse self.old.is_done ((meant : Result Turn RunFault)
-            × Means self.old meant
+            × CallMeans self.old meant
             × Gives result values.old.items values.new.items self.old self.new meant) }
         // What the lines mean is given, unless memory runs out.
         ensures only { OnFalse self.old.is_done ((meant : Result Turn RunFault) →
-            Means self.old meant
+            CallMeans self.old meant
             → Gives result values.old.items values.new.items self.old self.new meant) }
         // What a call tells of reading all lines, for a loop that reads on.
         ensures reads_on { ReadsOn result values.old.items values.new.items self.old self.new }

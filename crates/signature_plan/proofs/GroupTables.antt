@@ -12,7 +12,7 @@ use Rattle.test_lang.specs.Signatures.{candidate_count, groups, groups_of, group
 use Rattle.test_lang.proofs.Ranks.{length-load_nodes}
 use Rattle.signature_plan.specs.declared.group_rows.Group.{Group}
 use Rattle.signature_plan.specs.Fitting.{product_at}
-use Rattle.signature_plan.specs.Rows.{row_of, Tabulates}
+use Rattle.signature_plan.specs.Rows.{row_of, TabulatesGroups}
 use Rattle.signature_plan.specs.Words.{loads_between}
 use Rattle.signature_plan.proofs.AllLoads.{concat-groups, thread_counts}
 use Rattle.signature_plan.proofs.Concat.{start_of, start_of-suc, start_of-le, piece_at}
@@ -100,8 +100,8 @@ groups_all p place first past first_is =
     omega (arith, first_is, all, loads)
 
 -- the rows of the test that contracts see
-pub tables_of : (q p : Program) (rows : List Group) {inverses : List ℕ} → q ≡ p → Tabulates q rows inverses → Tabulates p rows inverses
-tables_of q p rows {inverses = inverses} same t = subst (λ r. Tabulates r rows inverses) same t
+pub tables_of : (q p : Program) (rows : List Group) {inverses : List ℕ} → q ≡ p → TabulatesGroups q rows inverses → TabulatesGroups p rows inverses
+tables_of q p rows {inverses = inverses} same t = subst (λ r. TabulatesGroups r rows inverses) same t
 
 -- the group of a place, by the ranks of its loads
 pub record GroupAt (p : Program) (place first loads : ℕ) : Type 0 where
@@ -111,7 +111,7 @@ pub record GroupAt (p : Program) (place first loads : ℕ) : Type 0 where
   pub between : loads_between p first (first + loads) ≡ get_or (groups p) place []
   pub next : first + loads ≡ group_start p (place + 1)
 
-pub group_at : (p : Program) (rows : List Group) (place first : ℕ) (row : Group) {inverses : List ℕ} → Tabulates p rows inverses → place < length (groups p) → row ≡ get_or rows place row → first ≡ group_start p place → GroupAt p place first row.loads
+pub group_at : (p : Program) (rows : List Group) (place first : ℕ) (row : Group) {inverses : List ℕ} → TabulatesGroups p rows inverses → place < length (groups p) → row ≡ get_or rows place row → first ≡ group_start p place → GroupAt p place first row.loads
 group_at p rows place first row t lt is first_is =
     let size = length (get_or (groups p) place []) in
     let loads : row.loads ≡ size = ap (λ (g : Group). g.loads) (row_at p rows place row t.rows_are lt is) in

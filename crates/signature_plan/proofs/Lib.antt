@@ -6,6 +6,7 @@ pub mod AllLoads
 pub mod Reading
 pub mod Meaning
 pub mod LongestCuts
+pub mod OneCut
 pub mod GroupTables
 pub mod RankLoads
 pub mod WritingRuns

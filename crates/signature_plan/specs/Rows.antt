@@ -10,7 +10,7 @@ abbrev pub row_of : Program → List ℕ → Group
 row_of p group = record { loads = length group; product = group_product p group }
 
 -- The rows are those of the test's groups, and the inverses those of the loads' numbers of candidates, by rank.
-pub record Tabulates (p : Program) (rows : List Group) (inverses : List ℕ) : Type 0 where
+pub record TabulatesGroups (p : Program) (rows : List Group) (inverses : List ℕ) : Type 0 where
   pub limits : IsWithinLimits p
   pub rows_are : rows ≡ map (row_of p) (groups p)
   pub long : length inverses ≡ load_count p

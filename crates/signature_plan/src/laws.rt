@@ -1,5 +1,5 @@
 //! Laws of signatures, for any test.
-ghost use Rattle.std.specs.Prelude.{◌≡◌, ℕ, List};
+ghost use Rattle.std.specs.Prelude.{◌≡◌, ◌↔◌, ℕ, List};
 ghost use Rattle.std.specs.List.{concat};
 ghost use Rattle.signature_plan.specs.Cuts.{IsLongestCut};
 ghost use Rattle.signature_plan.specs.Fitting.{FitGroups};
@@ -24,4 +24,11 @@ pub fn groups_are_longest()
     ensures threads { (p : Program) (thread : ℕ) → IsWithinLimits p
         → IsLongestCut (candidate_count p) (thread_loads p thread) (groups_of (candidate_count p) (thread_loads p thread)) }
     ensures whole { (p : Program) → concat (groups p) ≡ load_nodes p }
+{}
+
+/// The loads of a thread have one longest cut, their groups. So it is no choice that these are found load by load.
+pub fn one_longest_cut()
+    ensures { (p : Program) (thread : ℕ) (cut : List (List ℕ)) → IsWithinLimits p
+        → IsLongestCut (candidate_count p) (thread_loads p thread) cut
+        ↔ (cut ≡ groups_of (candidate_count p) (thread_loads p thread)) }
 {}

@@ -22,13 +22,13 @@ pub struct Plan {
 
 impl Model for Plan {
     ghost use Rattle.test_lang.specs.Program.{Program};
-    ghost use Rattle.signature_plan.specs.Rows.{Tabulates};
+    ghost use Rattle.signature_plan.specs.Rows.{TabulatesGroups};
 
     ghost Value = { Program };
 
     ghost view = { λ p. p.candidates };
 
-    ghost invariant = { λ p. Tabulates p.candidates p.groups.items p.inverses.items };
+    ghost invariant = { λ p. TabulatesGroups p.candidates p.groups.items p.inverses.items };
 }
 
 impl Plan {

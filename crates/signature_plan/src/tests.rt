@@ -2,7 +2,6 @@
 
 use crate::{Outside, Plan, WordTooLarge};
 use std::alloc::{AllocError, Global};
-use std::process::Abort;
 use std::test::Fail;
 use tally::{Outcome, Signature};
 use test_lang::op::Op;
@@ -102,21 +101,40 @@ const CASES: [Case; 8] = [
     },
 ];
 
-fn build(rt: &impl Abort, alloc: Global, case: &Case) -> Result<Test, Fail> {
-    assert!(rt; 1 <= case.words && case.words <= 256);
-    let mut test = Test::new(alloc, case.words);
+/// The test of a case, if it is within the limits.
+fn build(alloc: Global, case: &Case) -> Result<Test, AllocError> {
+    let mut test = new_test(alloc, case.words)?;
     for ops in case.threads {
-        assert!(rt; test.threads() < 16);
-        test.add_thread()?;
-        for (op, times) in ops.iter() {
-            for _ in 0..*times {
-                assert!(rt; test.threads() > 0 && test.ops() < 2048);
-                assert!(rt; test.has_word(*op));
-                test.add_op(*op)?;
-            }
-        }
+        add_thread(&mut test, ops)?;
     }
     Ok(test)
+}
+
+fn new_test(alloc: Global, words: u32) -> Result<Test, AllocError> {
+    if 1 <= words && words <= 256 {
+        return Ok(Test::new(alloc, words));
+    }
+    Err(AllocError)
+}
+
+fn add_thread(test: &mut Test, ops: &[(Op, u32)]) -> Result<(), AllocError> {
+    if 16 <= test.threads() {
+        return Err(AllocError);
+    }
+    test.add_thread()?;
+    for (op, times) in ops {
+        for _ in 0..*times {
+            add_op(test, *op)?;
+        }
+    }
+    Ok(())
+}
+
+fn add_op(test: &mut Test, op: Op) -> Result<(), AllocError> {
+    if test.threads() > 0 && test.ops() < 2048 && test.has_word(op) {
+        return test.add_op(op);
+    }
+    Err(AllocError)
 }
 
 fn values(alloc: Global, run: &[(u32, u32)]) -> Result<Vec<u32>, AllocError> {
@@ -129,102 +147,185 @@ fn values(alloc: Global, run: &[(u32, u32)]) -> Result<Vec<u32>, AllocError> {
     Ok(values)
 }
 
-fn check_run(
-    rt: &impl Abort,
+fn plan_of(alloc: Global, case: &Case) -> Result<Plan, AllocError> {
+    let test = build(alloc, case)?;
+    Plan::of(alloc, &test)
+}
+
+/// The product of the group at a place, or 0 where there is none.
+fn limit_at(plan: &Plan, place: usize) -> u128 {
+    if place < plan.words() && plan.loads() <= 2048 {
+        return plan.limit(place as u32);
+    }
+    0
+}
+
+/// Whether the plan has these products of groups, and a value for each load of its test.
+fn has_limits(plan: &Plan, limits: &[u128]) -> bool {
+    if plan.words() != limits.len() {
+        return false;
+    }
+    for (place, limit) in limits.iter().enumerate() {
+        if limit_at(plan, place) != *limit {
+            return false;
+        }
+    }
+    plan.loads() == plan.candidates().test().loads() as usize
+}
+
+/// Whether a run is encoded to these words, with this answer, where each word was 7 before.
+fn is_encoded(
     alloc: Global,
     plan: &Plan,
     run: &[u32],
     words: &[u64],
-) -> Result<(), Fail> {
-    assert!(rt; run.len() == plan.loads() && words.len() == plan.words());
+    answer: Result<(), Outside>,
+) -> Result<bool, AllocError> {
+    if run.len() != plan.loads() {
+        return Ok(false);
+    }
     let mut encoded = vec![in alloc; 7u64; plan.words()]?;
-    assert_eq!(rt; plan.encode_into(run, encoded.as_mut_slice()), Ok(()));
-    assert_eq!(rt; encoded.as_slice(), words);
-    let mut decoded = vec![in alloc; 7u32; plan.loads()]?;
-    assert_eq!(rt; plan.decode_into(words, decoded.as_mut_slice()), Ok(()));
-    assert_eq!(rt; decoded.as_slice(), run);
-    let outcome = Outcome::Inside(Signature::of(alloc, words)?);
-    assert!(rt; plan.outcome(alloc, run)? == outcome);
-    Ok(())
+    Ok(plan.encode_into(run, encoded.as_mut_slice()) == answer && encoded.as_slice() == words)
 }
 
-#[test]
-fn signatures_of_runs(rt: HostRuntime) -> Result<(), Fail> {
-    for case in &CASES {
-        let test = build(&rt, rt.alloc(), case)?;
-        let plan = Plan::of(rt.alloc(), &test)?;
-        assert_eq!(rt; plan.words(), case.limits.len());
-        assert_eq!(rt; plan.loads(), plan.candidates().test().loads() as usize);
-        for (place, limit) in case.limits.iter().enumerate() {
-            assert_eq!(rt; plan.limit(place as u32), *limit);
-        }
-        for (run, words) in case.runs {
-            check_run(&rt, rt.alloc(), &plan, &values(rt.alloc(), run)?, words)?;
-        }
-    }
-    Ok(())
-}
-
-fn check_outside(
-    rt: &impl Abort,
-    alloc: Global,
-    plan: &Plan,
-    run: &[u32],
-    outside: Outside,
-) -> Result<(), Fail> {
-    assert!(rt; run.len() == plan.loads());
-    let mut words = vec![in alloc; 7u64; plan.words()]?;
-    assert_eq!(rt; plan.encode_into(run, words.as_mut_slice()), Err(outside));
-    assert!(rt; words.iter().all(|word| *word == 7));
-    let outcome = Outcome::Outside {
-        node: outside.node,
-        value: outside.value,
-    };
-    assert!(rt; plan.outcome(alloc, run)? == outcome);
-    Ok(())
-}
-
-#[test]
-fn values_of_no_candidate_are_refused(rt: HostRuntime) -> Result<(), Fail> {
-    let plan = Plan::of(rt.alloc(), &build(&rt, rt.alloc(), &STORE_BUFFERING)?)?;
-    for (run, node, value) in [
-        ([9, 9], 1, 9),
-        ([0, 9], 3, 9),
-        ([1, 0], 1, 1),
-        ([2, 2], 3, 2),
-        ([u32::MAX, 0], 1, u32::MAX),
-    ] {
-        check_outside(&rt, rt.alloc(), &plan, &run, Outside { node, value })?;
-    }
-    Ok(())
-}
-
-fn check_too_large(
-    rt: &impl Abort,
+/// Whether words are decoded to this run, with this answer, where each value was 7 before.
+fn is_decoded(
     alloc: Global,
     plan: &Plan,
     words: &[u64],
-    fault: WordTooLarge,
-) -> Result<(), Fail> {
-    assert!(rt; words.len() == plan.words());
-    let mut run = vec![in alloc; 7u32; plan.loads()]?;
-    assert_eq!(rt; plan.decode_into(words, run.as_mut_slice()), Err(fault));
-    assert!(rt; run.iter().all(|value| *value == 7));
-    Ok(())
+    run: &[u32],
+    answer: Result<(), WordTooLarge>,
+) -> Result<bool, AllocError> {
+    if words.len() != plan.words() {
+        return Ok(false);
+    }
+    let mut decoded = vec![in alloc; 7u32; plan.loads()]?;
+    Ok(plan.decode_into(words, decoded.as_mut_slice()) == answer && decoded.as_slice() == run)
+}
+
+/// Whether a run has this outcome.
+fn has_outcome(
+    alloc: Global,
+    plan: &Plan,
+    run: &[u32],
+    outcome: &Outcome,
+) -> Result<bool, AllocError> {
+    if run.len() != plan.loads() {
+        return Ok(false);
+    }
+    Ok(plan.outcome(alloc, run)? == *outcome)
+}
+
+fn inside(alloc: Global, words: &[u64]) -> Result<Outcome, AllocError> {
+    Ok(Outcome::Inside(Signature::of(alloc, words)?))
+}
+
+/// Whether a run and these words are each other's.
+fn mean(alloc: Global, plan: &Plan, run: &[u32], words: &[u64]) -> Result<bool, AllocError> {
+    Ok(
+        is_encoded(alloc, plan, run, words, Ok(()))?
+            && is_decoded(alloc, plan, words, run, Ok(()))?
+            && has_outcome(alloc, plan, run, &inside(alloc, words)?)?,
+    )
+}
+
+fn all_mean(
+    alloc: Global,
+    plan: &Plan,
+    runs: &[(&[(u32, u32)], &[u64])],
+) -> Result<bool, AllocError> {
+    for (run, words) in runs {
+        if !mean(alloc, plan, &values(alloc, run)?, words)? {
+            return Ok(false);
+        }
+    }
+    Ok(true)
+}
+
+/// Whether the plan of a case goes with it.
+fn answers(alloc: Global, case: &Case) -> Result<bool, AllocError> {
+    let plan = plan_of(alloc, case)?;
+    Ok(has_limits(&plan, case.limits) && all_mean(alloc, &plan, case.runs)?)
+}
+
+/// The first case whose plan doesn't.
+fn first_wrong(alloc: Global) -> Result<Option<usize>, AllocError> {
+    for (place, case) in CASES.iter().enumerate() {
+        if !answers(alloc, case)? {
+            return Ok(Some(place));
+        }
+    }
+    Ok(None)
+}
+
+/// Runs of store buffering, and the first load of each, by its node, that gives a value of no candidate.
+const OUTSIDE: [(&[u32], u32, u32); 5] = [
+    (&[9, 9], 1, 9),
+    (&[0, 9], 3, 9),
+    (&[1, 0], 1, 1),
+    (&[2, 2], 3, 2),
+    (&[u32::MAX, 0], 1, u32::MAX),
+];
+
+/// The first of them that isn't refused so, and leaves the words alone.
+fn first_let_in(alloc: Global, plan: &Plan) -> Result<Option<usize>, AllocError> {
+    for (place, (run, node, value)) in OUTSIDE.iter().enumerate() {
+        if !is_refused(alloc, plan, run, *node, *value)? {
+            return Ok(Some(place));
+        }
+    }
+    Ok(None)
+}
+
+fn is_refused(
+    alloc: Global,
+    plan: &Plan,
+    run: &[u32],
+    node: u32,
+    value: u32,
+) -> Result<bool, AllocError> {
+    Ok(
+        is_encoded(alloc, plan, run, &[7, 7], Err(Outside { node, value }))?
+            && has_outcome(alloc, plan, run, &Outcome::Outside { node, value })?,
+    )
+}
+
+/// Words of which no run of store buffering has all, and the first of them that is too large.
+const TOO_LARGE: [(&[u64], u32, u64); 4] = [
+    (&[2, 0], 0, 2),
+    (&[1, 2], 1, 2),
+    (&[3, 3], 0, 3),
+    (&[0, u64::MAX], 1, u64::MAX),
+];
+
+/// The first of them that isn't refused so, and leaves the run alone.
+fn first_decoded(alloc: Global, plan: &Plan) -> Result<Option<usize>, AllocError> {
+    let limit = 2;
+    for (at, (words, place, word)) in TOO_LARGE.iter().enumerate() {
+        let fault = WordTooLarge {
+            place: *place,
+            word: *word,
+            limit,
+        };
+        if !is_decoded(alloc, plan, words, &[7, 7], Err(fault))? {
+            return Ok(Some(at));
+        }
+    }
+    Ok(None)
+}
+
+/// The first run of store buffering that isn't refused so, or else the first words.
+fn first_accepted(alloc: Global) -> Result<Option<usize>, AllocError> {
+    let plan = plan_of(alloc, &STORE_BUFFERING)?;
+    if let Some(place) = first_let_in(alloc, &plan)? {
+        return Ok(Some(place));
+    }
+    first_decoded(alloc, &plan)
 }
 
 #[test]
-fn words_of_no_run_are_refused(rt: HostRuntime) -> Result<(), Fail> {
-    let plan = Plan::of(rt.alloc(), &build(&rt, rt.alloc(), &STORE_BUFFERING)?)?;
-    let limit = 2;
-    for (words, place, word) in [
-        ([2, 0], 0, 2),
-        ([1, 2], 1, 2),
-        ([3, 3], 0, 3),
-        ([0, u64::MAX], 1, u64::MAX),
-    ] {
-        let fault = WordTooLarge { place, word, limit };
-        check_too_large(&rt, rt.alloc(), &plan, &words, fault)?;
-    }
+fn signatures_and_refusals(rt: HostRuntime) -> Result<(), Fail> {
+    assert_eq!(rt; first_wrong(rt.alloc())?, None);
+    assert_eq!(rt; first_accepted(rt.alloc())?, None);
     Ok(())
 }

@@ -1,123 +1,160 @@
 //! The order of outcomes, and tallies as a caller uses them.
-ghost use Rattle.std.specs.Prelude.{◌≡◌, ◌+◌, ◌≤◌, length, IfOk};
-ghost use Rattle.tally.specs.Tallies.{total_of};
-
+//! The proof of a test grows with its code, so what is tried stands in tables, and the calls under test in small functions.
 use crate::{Outcome, Signature, Tally};
 use std::alloc::{AllocError, Global};
 use std::cmp::Ordering;
 use std::test::Fail;
 
-fn inside(alloc: Global, words: &[u64]) -> Result<Outcome, AllocError> {
-    Ok(Outcome::Inside(Signature::of(alloc, words)?))
+/// An outcome in a table.
+pub(crate) enum Row {
+    Inside(&'static [u64]),
+    Outside(u32, u32),
+}
+
+pub(crate) fn outcome_of(alloc: Global, row: &Row) -> Result<Outcome, AllocError> {
+    match row {
+        Row::Inside(words) => Ok(Outcome::Inside(Signature::of(alloc, words)?)),
+        Row::Outside(node, value) => Ok(Outcome::Outside {
+            node: *node,
+            value: *value,
+        }),
+    }
 }
 
 /// Outcomes in their order, each once.
-fn rising(alloc: Global) -> Result<Vec<Outcome>, AllocError> {
-    let all = vec![in alloc;
-        inside(alloc, &[])?,
-        inside(alloc, &[0])?,
-        inside(alloc, &[0, 0])?,
-        inside(alloc, &[0, u64::MAX])?,
-        inside(alloc, &[1])?,
-        inside(alloc, &[1, 0])?,
-        inside(alloc, &[2, 1, 7])?,
-        inside(alloc, &[u64::MAX])?,
-        Outcome::Outside { node: 0, value: 0 },
-        Outcome::Outside { node: 0, value: 9 },
-        Outcome::Outside { node: 2, value: 1 },
-        Outcome::Outside {
-            node: 2,
-            value: u32::MAX
-        },
-        Outcome::Outside {
-            node: u32::MAX,
-            value: 0
-        },
-    ]?;
-    Ok(all)
+const RISING: [Row; 13] = [
+    Row::Inside(&[]),
+    Row::Inside(&[0]),
+    Row::Inside(&[0, 0]),
+    Row::Inside(&[0, u64::MAX]),
+    Row::Inside(&[1]),
+    Row::Inside(&[1, 0]),
+    Row::Inside(&[2, 1, 7]),
+    Row::Inside(&[u64::MAX]),
+    Row::Outside(0, 0),
+    Row::Outside(0, 9),
+    Row::Outside(2, 1),
+    Row::Outside(2, u32::MAX),
+    Row::Outside(u32::MAX, 0),
+];
+
+/// How two outcomes compare, by each of the three calls.
+fn compared(left: &Outcome, right: &Outcome) -> (Ordering, bool, Option<Ordering>) {
+    (left.cmp(right), left == right, left.partial_cmp(right))
 }
 
-#[test]
-fn outcomes_are_ordered(rt: HostRuntime) -> Result<(), Fail> {
-    let left = rising(rt.alloc())?;
-    let right = rising(rt.alloc())?;
-    assert_eq!(rt; left.len(), 13);
-    for (i, x) in left.iter().enumerate() {
-        for (j, y) in right.iter().enumerate() {
-            assert_eq!(rt; x.cmp(y), i.cmp(&j), "{x:?} and {y:?}");
-            assert_eq!(rt; x == y, i == j, "{x:?} and {y:?}");
-            assert!(rt; x.partial_cmp(y) == Some(i.cmp(&j)), "{x:?} and {y:?}");
+/// Whether the outcomes of two rows are in this order, by each of the calls.
+fn are(alloc: Global, left: &Row, order: Ordering, right: &Row) -> Result<bool, AllocError> {
+    let left = outcome_of(alloc, left)?;
+    let right = outcome_of(alloc, right)?;
+    let (full, equal, partial) = compared(&left, &right);
+    Ok(full == order && equal == order.is_eq() && partial == Some(order))
+}
+
+/// Two places of the table whose outcomes aren't in its order.
+fn first_disorder(alloc: Global) -> Result<Option<(usize, usize)>, AllocError> {
+    for (i, left) in RISING.iter().enumerate() {
+        for (j, right) in RISING.iter().enumerate() {
+            if !are(alloc, left, i.cmp(&j), right)? {
+                return Ok(Some((i, j)));
+            }
         }
     }
-    Ok(())
+    Ok(None)
+}
+
+const SIGNATURES: [&[u64]; 3] = [&[], &[7], &[3, 0, u64::MAX]];
+
+/// Whether a signature of these words lends them, equals another one of them, and stands behind that of no words, unless it is that.
+fn lends(alloc: Global, words: &[u64]) -> Result<bool, AllocError> {
+    let signature = Signature::of(alloc, words)?;
+    let same = signature.words() == words && signature == Signature::of(alloc, words)?;
+    Ok(same && (signature > Signature::of(alloc, &[])?) != words.is_empty())
 }
 
 #[test]
-fn signatures_lend_their_words(rt: HostRuntime) -> Result<(), Fail> {
-    for words in [[].as_slice(), [7].as_slice(), [3, 0, u64::MAX].as_slice()] {
-        let signature = Signature::of(rt.alloc(), words)?;
-        assert_eq!(rt; signature.words(), words);
-        assert!(rt; signature == Signature::of(rt.alloc(), words)?);
-        assert!(rt; signature > Signature::of(rt.alloc(), &[])? || words.is_empty());
+fn outcomes_are_ordered_and_signatures_lend_their_words(rt: HostRuntime) -> Result<(), Fail> {
+    assert_eq!(rt; first_disorder(rt.alloc())?, None);
+    for words in &SIGNATURES {
+        assert!(rt; lends(rt.alloc(), words)?);
     }
     Ok(())
 }
 
 /// Adds an outcome, where the tally isn't full.
-fn add(tally: &mut Tally, outcome: Outcome) -> Result<(), Fail> {
-    if tally.total() < u64::MAX {
-        tally.add(outcome).map_err(|_| "want of memory")?;
+pub(crate) fn add(tally: &mut Tally, outcome: Outcome) -> Result<(), AllocError> {
+    if tally.total() < u64::MAX && tally.add(outcome).is_ok() {
+        return Ok(());
     }
-    Ok(())
+    Err(AllocError)
 }
 
-/// The pairs of a tally, as text.
-fn shown(alloc: Global, tally: &Tally) -> Result<String, AllocError> {
-    let mut out = String::new(alloc);
-    for (outcome, count) in tally.iter() {
-        match outcome {
-            Outcome::Inside(signature) => {
-                let words = signature.words();
-                write!(out, "{words:?} {count};")?;
-            }
-            Outcome::Outside { node, value } => write!(out, "{node} {value} {count};")?,
+/// Writes an outcome and its count; of a signature at most the first two words.
+fn show(out: &mut String, outcome: &Outcome, count: u64) -> Result<(), AllocError> {
+    match outcome {
+        Outcome::Inside(signature) => {
+            let words = signature.words();
+            let first = words.get(..2).unwrap_or(words);
+            write!(out, " {first:?} {count};")
         }
+        Outcome::Outside { node, value } => write!(out, " {node} {value} {count};"),
+    }
+}
+
+/// The number of outcomes in a tally and its pairs, as text.
+pub(crate) fn shown(alloc: Global, tally: &Tally) -> Result<String, AllocError> {
+    let mut out = format!(in alloc; "{}:", tally.total())?;
+    for (outcome, count) in tally.iter() {
+        show(&mut out, outcome, count)?;
     }
     Ok(out)
 }
 
+/// Outcomes that are added to one tally, and what it has behind them. Equal ones are joined wherever they stand.
+const ADDED: [(&[Row], &str); 3] = [
+    (&[], "0:"),
+    (
+        &[
+            Row::Inside(&[2, 1]),
+            Row::Inside(&[2, 0]),
+            Row::Inside(&[0, 1]),
+            Row::Inside(&[0, 0]),
+            Row::Inside(&[2, 1]),
+            Row::Inside(&[2, 0]),
+            Row::Inside(&[0, 1]),
+            Row::Inside(&[0, 0]),
+        ],
+        "8: [0, 0] 2; [0, 1] 2; [2, 0] 2; [2, 1] 2;",
+    ),
+    (
+        &[
+            Row::Outside(3, 1),
+            Row::Outside(2, 9),
+            Row::Outside(3, 0),
+            Row::Outside(2, 9),
+            Row::Outside(3, 1),
+            Row::Outside(2, 9),
+            Row::Inside(&[]),
+            Row::Inside(&[2]),
+            Row::Inside(&[2, 1]),
+        ],
+        "17: [] 1; [0, 0] 2; [0, 1] 2; [2] 1; [2, 0] 2; [2, 1] 3; 2 9 3; 3 0 1; 3 1 2;",
+    ),
+];
+
+fn add_all(alloc: Global, tally: &mut Tally, rows: &[Row]) -> Result<(), AllocError> {
+    for row in rows {
+        add(tally, outcome_of(alloc, row)?)?;
+    }
+    Ok(())
+}
+
 #[test]
 fn equal_outcomes_are_joined_wherever_they_stand(rt: HostRuntime) -> Result<(), Fail> {
-    let alloc = rt.alloc();
-    let mut tally = Tally::new(alloc);
-    assert_eq!(rt; shown(alloc, &tally)?.as_str(), "");
-    assert_eq!(rt; tally.total(), 0);
-    for words in [
-        [2, 1],
-        [2, 0],
-        [0, 1],
-        [0, 0],
-        [2, 1],
-        [2, 0],
-        [0, 1],
-        [0, 0],
-    ] {
-        add(&mut tally, inside(alloc, &words)?)?;
+    let mut tally = Tally::new(rt.alloc());
+    for (rows, text) in &ADDED {
+        add_all(rt.alloc(), &mut tally, rows)?;
+        assert_eq!(rt; shown(rt.alloc(), &tally)?.as_str(), *text);
     }
-    assert_eq!(rt;
-        shown(alloc, &tally)?.as_str(),
-        "[0, 0] 2;[0, 1] 2;[2, 0] 2;[2, 1] 2;"
-    );
-    for (node, value) in [(3, 1), (2, 9), (3, 0), (2, 9), (3, 1), (2, 9)] {
-        add(&mut tally, Outcome::Outside { node, value })?;
-    }
-    add(&mut tally, inside(alloc, &[])?)?;
-    add(&mut tally, inside(alloc, &[2])?)?;
-    add(&mut tally, inside(alloc, &[2, 1])?)?;
-    assert_eq!(rt;
-        shown(alloc, &tally)?.as_str(),
-        "[] 1;[0, 0] 2;[0, 1] 2;[2] 1;[2, 0] 2;[2, 1] 3;2 9 3;3 0 1;3 1 2;"
-    );
-    assert_eq!(rt; tally.total(), 17);
     Ok(())
 }

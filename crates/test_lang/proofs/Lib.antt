@@ -1,6 +1,8 @@
 pub mod EdgeTests
 pub mod EdgeLists
-pub mod OrderTests
+pub mod ListTests
+pub mod LeastTests
+pub mod CycleTests
 pub mod Examples
 pub mod Places
 pub mod Ranks

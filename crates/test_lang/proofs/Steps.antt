@@ -3,11 +3,11 @@ use Rattle.std.proofs.Common.{◌≡◌, ◌∙◌, ℕ, suc, ◌+◌, ◌<◌, 
 use Rattle.test_lang.specs.declared.test.Row.{Row}
 use Rattle.test_lang.specs.Program.{op_count, with_thread, with_op, HasWord}
 use Rattle.test_lang.specs.Values.{is_load, is_store}
-use Rattle.test_lang.specs.Tables.{Tabulates, program_of}
+use Rattle.test_lang.specs.Tables.{TabulatesTest, program_of}
 use Rattle.test_lang.proofs.Rows.{length-threads_of, program_of-suc, program_of_push}
 use Rattle.test_lang.proofs.Tabulated.{tabulates-with_thread, tabulates-with_op}
 
-module _ (words : ℕ) (rows : List Row) (loads stores firsts : List ℕ) (t : Tabulates (program_of words (length firsts) rows) rows loads stores firsts) where
+module _ (words : ℕ) (rows : List Row) (loads stores firsts : List ℕ) (t : TabulatesTest (program_of words (length firsts) rows) rows loads stores firsts) where
   pub thread_added : (first : ℕ) → program_of words (length (firsts ++ first ∷ [])) rows ≡ with_thread (program_of words (length firsts) rows)
   thread_added first =
       let more = length-append firsts (first ∷ []) in
@@ -17,9 +17,9 @@ module _ (words : ℕ) (rows : List Row) (loads stores firsts : List ℕ) (t : T
       ∙ program_of-suc words (length firsts) rows (λ k row e. let lt = (t.rows_describe k row e).has_thread in omega (arith, lt, threads))
 
   pub tabulates_thread_added : (first : ℕ) → length (program_of words (length firsts) rows).threads < 16 → first ≡ length rows
-      → Tabulates (program_of words (length (firsts ++ first ∷ [])) rows) rows loads stores (firsts ++ first ∷ [])
+      → TabulatesTest (program_of words (length (firsts ++ first ∷ [])) rows) rows loads stores (firsts ++ first ∷ [])
   tabulates_thread_added first room is_first =
-      subst (λ p. Tabulates p rows loads stores (firsts ++ first ∷ [])) (sym (thread_added first)) (tabulates-with_thread (program_of words (length firsts) rows) rows loads stores firsts first t room is_first)
+      subst (λ p. TabulatesTest p rows loads stores (firsts ++ first ∷ [])) (sym (thread_added first)) (tabulates-with_thread (program_of words (length firsts) rows) rows loads stores firsts first t room is_first)
 
   pub op_added : (row : Row) → suc row.thread ≡ length firsts → program_of words (length firsts) (rows ++ row ∷ []) ≡ with_op (program_of words (length firsts) rows) row.op
   op_added row last = program_of_push words (length firsts) rows row last
@@ -33,9 +33,9 @@ module _ (words : ℕ) (rows : List Row) (loads stores firsts : List ℕ) (t : T
     pub some_word : HasWord (program_of words (length firsts) rows) row.op
 
   pub tabulates_op_added : (row : Row) → IsNext row
-      → Tabulates (program_of words (length firsts) (rows ++ row ∷ [])) (rows ++ row ∷ []) (loads ++ cond (is_load row.op) (length rows ∷ []) []) (stores ++ cond (is_store row.op) (length rows ∷ []) []) firsts
+      → TabulatesTest (program_of words (length firsts) (rows ++ row ∷ [])) (rows ++ row ∷ []) (loads ++ cond (is_load row.op) (length rows ∷ []) []) (stores ++ cond (is_store row.op) (length rows ∷ []) []) firsts
   tabulates_op_added row next =
       let threads = length-threads_of (length firsts) rows in
       let last = next.last_thread in
-      subst (λ p. Tabulates p (rows ++ row ∷ []) (loads ++ cond (is_load row.op) (length rows ∷ []) []) (stores ++ cond (is_store row.op) (length rows ∷ []) []) firsts) (sym (op_added row last))
+      subst (λ p. TabulatesTest p (rows ++ row ∷ []) (loads ++ cond (is_load row.op) (length rows ∷ []) []) (stores ++ cond (is_store row.op) (length rows ∷ []) []) firsts) (sym (op_added row last))
       (tabulates-with_op (program_of words (length firsts) rows) rows loads stores firsts row t (omega (arith, last, threads)) next.next_value next.next_rank next.room next.some_word)

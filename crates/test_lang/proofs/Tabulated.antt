@@ -8,7 +8,7 @@ use Rattle.test_lang.specs.declared.op.Op.{Op}
 use Rattle.test_lang.specs.declared.test.Row.{Row}
 use Rattle.test_lang.specs.Program.{Program, nodes, op_count, with_thread, with_op, HasWord}
 use Rattle.test_lang.specs.Values.{is_load, is_store, load_count, load_nodes, store_count}
-use Rattle.test_lang.specs.Tables.{Describes, Tabulates, store_nodes}
+use Rattle.test_lang.specs.Tables.{Describes, TabulatesTest, store_nodes}
 use Rattle.test_lang.proofs.Places.{load_node, passing, passing-append, passing_all, places, slice_get-append_left, slice_get_cases_end, slice_get_end, store_node}
 use Rattle.test_lang.proofs.Ranks.{length-load_nodes, length-store_nodes, load_count-le, store_count-le}
 use Rattle.test_lang.proofs.Threads.{first_node_all}
@@ -49,8 +49,8 @@ describes_last p q row e threads fits =
       has_thread = let last = fits.last_thread in omega (arith, last, threads);
     }
 
-pub tabulates-with_thread : (p : Program) (rows : List Row) (loads stores firsts : List ℕ) (first : ℕ) → Tabulates p rows loads stores firsts → length p.threads < 16 → first ≡ length rows
-    → Tabulates (with_thread p) rows loads stores (firsts ++ first ∷ [])
+pub tabulates-with_thread : (p : Program) (rows : List Row) (loads stores firsts : List ℕ) (first : ℕ) → TabulatesTest p rows loads stores firsts → length p.threads < 16 → first ≡ length rows
+    → TabulatesTest (with_thread p) rows loads stores (firsts ++ first ∷ [])
 tabulates-with_thread p rows loads stores firsts first t room is_first =
     let q = with_thread p in
     let same : nodes q ≡ nodes p = nodes-with_thread p in
@@ -77,9 +77,9 @@ tabulates-with_thread p rows loads stores firsts first t room is_first =
           (cases_lt thread (length firsts));
     }
 
-pub tabulates-with_op : (p : Program) (rows : List Row) (loads stores firsts : List ℕ) (row : Row) → Tabulates p rows loads stores firsts → suc row.thread ≡ length p.threads → row.value ≡ length stores + 1
+pub tabulates-with_op : (p : Program) (rows : List Row) (loads stores firsts : List ℕ) (row : Row) → TabulatesTest p rows loads stores firsts → suc row.thread ≡ length p.threads → row.value ≡ length stores + 1
     → row.rank ≡ length loads → op_count p < 2048 → HasWord p row.op
-    → Tabulates (with_op p row.op) (rows ++ row ∷ []) (loads ++ cond (is_load row.op) (length rows ∷ []) []) (stores ++ cond (is_store row.op) (length rows ∷ []) []) firsts
+    → TabulatesTest (with_op p row.op) (rows ++ row ∷ []) (loads ++ cond (is_load row.op) (length rows ∷ []) []) (stores ++ cond (is_store row.op) (length rows ∷ []) []) firsts
 tabulates-with_op p rows loads stores firsts row t last value rank room word =
     let q = with_op p row.op in
     let grown : nodes q ≡ nodes p ++ (row.thread, row.op) ∷ [] = nodes-with_op p row.op row.thread (sym last) in
@@ -111,27 +111,27 @@ tabulates-with_op p rows loads stores firsts row t last value rank room word =
 
 -- what the tables count
 
-pub load_total : (p : Program) (rows : List Row) (loads stores firsts : List ℕ) → Tabulates p rows loads stores firsts → length loads ≡ load_count p
+pub load_total : (p : Program) (rows : List Row) (loads stores firsts : List ℕ) → TabulatesTest p rows loads stores firsts → length loads ≡ load_count p
 load_total p rows loads stores firsts t = ap length t.loads_are ∙ length-load_nodes p
 
-pub store_total : (p : Program) (rows : List Row) (loads stores firsts : List ℕ) → Tabulates p rows loads stores firsts → length stores ≡ store_count p
+pub store_total : (p : Program) (rows : List Row) (loads stores firsts : List ℕ) → TabulatesTest p rows loads stores firsts → length stores ≡ store_count p
 store_total p rows loads stores firsts t = ap length t.stores_are ∙ length-store_nodes p
 
-pub few_loads : (p : Program) (rows : List Row) (loads stores firsts : List ℕ) → Tabulates p rows loads stores firsts → length loads ≤ op_count p
+pub few_loads : (p : Program) (rows : List Row) (loads stores firsts : List ℕ) → TabulatesTest p rows loads stores firsts → length loads ≤ op_count p
 few_loads p rows loads stores firsts t = let total = load_total p rows loads stores firsts t in let le = load_count-le p in omega (arith, total, le)
 
-pub few_stores : (p : Program) (rows : List Row) (loads stores firsts : List ℕ) → Tabulates p rows loads stores firsts → length stores ≤ op_count p
+pub few_stores : (p : Program) (rows : List Row) (loads stores firsts : List ℕ) → TabulatesTest p rows loads stores firsts → length stores ≤ op_count p
 few_stores p rows loads stores firsts t = let total = store_total p rows loads stores firsts t in let le = store_count-le p in omega (arith, total, le)
 
 -- what a read of a table finds
 
-pub load_found : (p q : Program) (rows : List Row) (loads stores firsts : List ℕ) → Tabulates p rows loads stores firsts → p ≡ q → (rank node : ℕ) → rank < load_count q → node ≡ get_or loads rank node
+pub load_found : (p q : Program) (rows : List Row) (loads stores firsts : List ℕ) → TabulatesTest p rows loads stores firsts → p ≡ q → (rank node : ℕ) → rank < load_count q → node ≡ get_or loads rank node
     → slice_get (load_nodes q) rank ≡ Some node
 load_found p q rows loads stores firsts t same rank node lt read =
     let listed : loads ≡ load_nodes q = t.loads_are ∙ ap load_nodes same in
     ap (λ list. slice_get list rank) (sym listed) ∙ slice_get_read loads (load_count q) rank node (sym (ap length listed ∙ length-load_nodes q)) lt read
 
-pub store_found : (p q : Program) (rows : List Row) (loads stores firsts : List ℕ) → Tabulates p rows loads stores firsts → p ≡ q → (place node : ℕ) → place < store_count q → node ≡ get_or stores place node
+pub store_found : (p q : Program) (rows : List Row) (loads stores firsts : List ℕ) → TabulatesTest p rows loads stores firsts → p ≡ q → (place node : ℕ) → place < store_count q → node ≡ get_or stores place node
     → slice_get (store_nodes q) place ≡ Some node
 store_found p q rows loads stores firsts t same place node lt read =
     let listed : stores ≡ store_nodes q = t.stores_are ∙ ap store_nodes same in

@@ -36,7 +36,7 @@ pub record Describes (p : Program) (node : ℕ) (row : Row) : Type 0 where
   pub has_thread : row.thread < length p.threads
 
 -- The tables tell the test, and the test is within its limits.
-pub record Tabulates (p : Program) (rows : List Row) (loads stores firsts : List ℕ) : Type 0 where
+pub record TabulatesTest (p : Program) (rows : List Row) (loads stores firsts : List ℕ) : Type 0 where
   pub limits : IsWithinLimits p
   pub one_row_each : length rows ≡ op_count p
   pub rows_describe : (node : ℕ) (row : Row) → slice_get rows node ≡ Some row → Describes p node row

@@ -17,7 +17,8 @@ pub enum Target {
 #[derive(Clone, Copy, PartialEq, Eq, Debug, Drop)]
 pub enum Fault {
     None,
-    /// The load with this node gives the value before the one that stands in memory.
+    /// The load with this node gives the value before the one that stands in memory. The fault acts where the load reads memory: a load that
+    /// finds its word in its own buffer isn't touched by it.
     Stale { node: u32 },
     /// Fences order nothing.
     NoFence,

@@ -10,7 +10,7 @@ use std::marker::Model;
 mod copies;
 mod lookups;
 #[cfg(test)]
-mod tests;
+pub(crate) mod tests;
 
 /// The most words that a test may have.
 pub const MAX_WORDS: u32 = 256;
@@ -48,13 +48,13 @@ pub struct Test {
 impl Model for Test {
     ghost use Rattle.std.specs.Prelude.{length};
     ghost use Rattle.test_lang.specs.Program.{Program};
-    ghost use Rattle.test_lang.specs.Tables.{program_of, Tabulates};
+    ghost use Rattle.test_lang.specs.Tables.{program_of, TabulatesTest};
 
     ghost Value = { Program };
 
     ghost view = { λ t. program_of t.words (length t.first_nodes.items) t.rows.items };
 
-    ghost invariant = { λ t. Tabulates (program_of t.words (length t.first_nodes.items) t.rows.items)
+    ghost invariant = { λ t. TabulatesTest (program_of t.words (length t.first_nodes.items) t.rows.items)
         t.rows.items t.load_nodes.items t.store_nodes.items t.first_nodes.items };
 }
 

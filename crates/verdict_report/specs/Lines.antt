@@ -1,5 +1,5 @@
 -- The report, line by line.
-use Rattle.std.specs.Prelude.{ℕ, List, [], ◌∷◌, ◌++◌, Bool, true, false, not, map, length, count_by, codes}
+use Rattle.std.specs.Prelude.{ℕ, List, [], ◌∷◌, ◌++◌, Bool, true, false, not, map, length, count_by, codes, Option, Some, None}
 use Rattle.std.specs.Fmt.{decimal}
 use Rattle.std.specs.List.{flat_map, list_any, zip}
 use Rattle.tally.specs.declared.outcome.Outcome.{Outcome}
@@ -18,9 +18,20 @@ use Rattle.verdict_report.specs.Numbers.{signature_text}
 abbrev pub named : List ℕ → ℕ → List ℕ
 named name number = part name ++ part (decimal number)
 
+-- The lines of which a report is made. A summary of the same findings is made of the same lines.
+
+abbrev pub format_line : List ℕ
+format_line = codes "mtrace 1"
+
+abbrev pub model_line : MemModel → List ℕ
+model_line model = codes "model" ++ part (model_name model)
+
+abbrev pub runs_line : ℕ → List ℕ
+runs_line runs = codes "runs" ++ part (decimal runs)
+
 -- the first three lines
 abbrev pub head_lines : MemModel → ℕ → List (List ℕ)
-head_lines model runs = codes "mtrace 1" ∷ (codes "model" ++ part (model_name model)) ∷ (codes "runs" ++ part (decimal runs)) ∷ []
+head_lines model runs = format_line ∷ model_line model ∷ runs_line runs ∷ []
 
 -- the signatures of a tally, rising, with their counts
 abbrev pub signatures : List (Outcome × ℕ) → List (List ℕ × ℕ)
@@ -34,14 +45,19 @@ outsides [] = []
 outsides ((Inside words, count) ∷ more) = outsides more
 outsides ((Outside node value, count) ∷ more) = (node, value, count) ∷ outsides more
 
--- what stands of a verdict behind the count
-abbrev pub verdict_text : Judged → List ℕ
-verdict_text Ok = codes " ok"
-verdict_text (Cycle nodes) = codes " cycle" ++ flat_map (λ node. part (decimal node)) nodes.list
+-- the nodes of a verdict's cycle, if it has one
+abbrev pub cycle_of : Judged → Option (List ℕ)
+cycle_of Ok = None
+cycle_of (Cycle nodes) = Some nodes.list
+
+-- what stands of a verdict behind the count: its cycle, or that there is none
+abbrev pub verdict_text : Option (List ℕ) → List ℕ
+verdict_text None = codes " ok"
+verdict_text (Some nodes) = codes " cycle" ++ flat_map (λ node. part (decimal node)) nodes
 
 -- the line of a signature with its count, and of its verdict
 abbrev pub signature_line : (List ℕ × ℕ) × Judged → List ℕ
-signature_line (signature, judged) = codes "sig " ++ signature_text signature.0 ++ named (codes "count") signature.1 ++ verdict_text judged
+signature_line (signature, judged) = codes "sig " ++ signature_text signature.0 ++ named (codes "count") signature.1 ++ verdict_text (cycle_of judged)
 
 -- the line of an outcome outside
 abbrev pub outside_line : ℕ × ℕ × ℕ → List ℕ
@@ -68,12 +84,14 @@ work_line work =
     codes "work" ++ named (codes "chunks") work.chunks ++ named (codes "full") work.full ++ named (codes "kept") work.kept
     ++ named (codes "resorted") work.resorted ++ named (codes "nodes") work.nodes
 
+-- the same of a tally and the verdicts on its signatures
+abbrev pub sum_line_of : List (Outcome × ℕ) → List Judged → List ℕ
+sum_line_of tally found = sum_line (length (signatures tally)) (count_by is_ok found) (count_by is_cycle found) (length (outsides tally))
+
 -- The lines of a report on so many runs, with their tally, the verdicts on its signatures, and the numbers of work.
 abbrev pub report_lines_of : MemModel → ℕ → List (Outcome × ℕ) → List Judged → Work → List (List ℕ)
 report_lines_of model runs tally found work =
-    head_lines model runs ++ outcome_lines tally found
-    ++ sum_line (length (signatures tally)) (count_by is_ok found) (count_by is_cycle found) (length (outsides tally))
-    ∷ work_line work ∷ []
+    head_lines model runs ++ outcome_lines tally found ++ sum_line_of tally found ∷ work_line work ∷ []
 
 -- the lines, each closed by a line feed
 abbrev pub report_text_of : MemModel → ℕ → List (Outcome × ℕ) → List Judged → Work → List ℕ

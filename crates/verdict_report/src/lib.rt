@@ -2,6 +2,7 @@
 #![tactic(auto)]
 
 mod clean;
+pub mod laws;
 mod lines;
 mod numbers;
 mod report;

@@ -4,7 +4,7 @@ ghost use Rattle.std.specs.Fmt.{decimal};
 ghost use Rattle.std.specs.List.{flat_map};
 ghost use Rattle.test_lang.specs.Text.Line.{closed};
 ghost use Rattle.test_lang.specs.Text.Numeral.{part};
-ghost use Rattle.verdict_report.specs.Lines.{head_lines, is_cycle, is_ok, sum_line, outcome_lines, outside_line, outsides, signature_line, signatures, verdict_text, work_line};
+ghost use Rattle.verdict_report.specs.Lines.{cycle_of, format_line, is_cycle, is_ok, model_line, runs_line, sum_line, outcome_lines, outside_line, outsides, signature_line, signatures, verdict_text, work_line};
 
 use crate::numbers::{push_named, push_part, push_signature};
 use crate::report::{Judged, Work};
@@ -12,13 +12,22 @@ use std::alloc::AllocError;
 use tally::{Outcome, Tally};
 use test_lang::op::MemModel;
 
-/// Adds the lines before those of the outcomes.
-pub fn push_head(out: &mut Vec<u8>, model: MemModel, runs: u64) -> Result<(), AllocError>
-    ensures { OnOk result (out.new.items ≡ out.old.items ++ closed (head_lines model runs)) }
+/// Adds the lines of the format and of the model.
+pub fn push_head(out: &mut Vec<u8>, model: MemModel) -> Result<(), AllocError>
+    ensures { OnOk result
+        (out.new.items ≡ out.old.items ++ closed (format_line ∷ model_line model ∷ [])) }
 {
     out.extend_from_slice(b"mtrace 1\nmodel ")?;
     out.extend_from_slice(model.name().as_bytes())?;
-    out.extend_from_slice(b"\nruns")?;
+    out.push(b'\n')?;
+    Ok(())
+}
+
+/// Adds the line of the number of runs.
+pub fn push_runs(out: &mut Vec<u8>, runs: u64) -> Result<(), AllocError>
+    ensures { OnOk result (out.new.items ≡ out.old.items ++ closed (runs_line runs ∷ [])) }
+{
+    out.extend_from_slice(b"runs")?;
     push_part(out, runs)?;
     out.push(b'\n')?;
     Ok(())
@@ -37,7 +46,7 @@ fn push_nodes(out: &mut Vec<u8>, nodes: &[u32]) -> Result<(), AllocError>
 
 /// Adds what stands of a verdict behind the count.
 fn push_verdict(out: &mut Vec<u8>, judged: &Judged) -> Result<(), AllocError>
-    ensures { OnOk result (out.new.items ≡ out.old.items ++ verdict_text judged.now) }
+    ensures { OnOk result (out.new.items ≡ out.old.items ++ verdict_text (cycle_of judged.now)) }
 {
     match judged {
         Judged::Ok => out.extend_from_slice(b" ok"),

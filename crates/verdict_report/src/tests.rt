@@ -104,124 +104,129 @@ fn written(alloc: Global, case: &Case<'_>) -> Result<(Vec<u8>, bool), Fail> {
     Ok((text(alloc, &report)?, report.is_clean()))
 }
 
+const CASES: [Case<'static>; 6] = [
+    Case {
+        model: MemModel::Sc,
+        runs: 1,
+        inside: &[&[0, 0]],
+        outside: &[],
+        cycles: &[&[0, 1, 2, 3]],
+        work: [1, 1, 0, 0, 0],
+        want: "mtrace 1\nmodel sc\nruns 1\n\
+            sig 0000000000000000.0000000000000000 count 1 cycle 0 1 2 3\n\
+            sum signatures 1 ok 0 cycle 1 outside 0\n\
+            work chunks 1 full 1 kept 0 resorted 0 nodes 0\n",
+        clean: false,
+    },
+    Case {
+        model: MemModel::Tso,
+        runs: 1,
+        inside: &[&[0, 0]],
+        outside: &[],
+        cycles: &[&[]],
+        work: [1, 1, 0, 0, 0],
+        want: "mtrace 1\nmodel tso\nruns 1\n\
+            sig 0000000000000000.0000000000000000 count 1 ok\n\
+            sum signatures 1 ok 1 cycle 0 outside 0\n\
+            work chunks 1 full 1 kept 0 resorted 0 nodes 0\n",
+        clean: true,
+    },
+    Case {
+        model: MemModel::Sc,
+        runs: 8,
+        inside: &[
+            &[1, 1],
+            &[1, 0],
+            &[0, 1],
+            &[0, 0],
+            &[1, 1],
+            &[1, 0],
+            &[0, 1],
+            &[0, 0],
+        ],
+        outside: &[],
+        cycles: &[&[0, 1, 2, 3], &[], &[], &[]],
+        work: [1, 2, 0, 2, 6],
+        want: "mtrace 1\nmodel sc\nruns 8\n\
+            sig 0000000000000000.0000000000000000 count 2 cycle 0 1 2 3\n\
+            sig 0000000000000000.0000000000000001 count 2 ok\n\
+            sig 0000000000000001.0000000000000000 count 2 ok\n\
+            sig 0000000000000001.0000000000000001 count 2 ok\n\
+            sum signatures 4 ok 3 cycle 1 outside 0\n\
+            work chunks 1 full 2 kept 0 resorted 2 nodes 6\n",
+        clean: false,
+    },
+    Case {
+        model: MemModel::Sc,
+        runs: 3,
+        inside: &[],
+        outside: &[(2, 1), (2, 0), (2, 9)],
+        cycles: &[],
+        work: [0, 0, 0, 0, 0],
+        want: "mtrace 1\nmodel sc\nruns 3\n\
+            outside 2 value 0 count 1\n\
+            outside 2 value 1 count 1\n\
+            outside 2 value 9 count 1\n\
+            sum signatures 0 ok 0 cycle 0 outside 3\n\
+            work chunks 0 full 0 kept 0 resorted 0 nodes 0\n",
+        clean: false,
+    },
+    Case {
+        model: MemModel::Weak,
+        runs: 0,
+        inside: &[],
+        outside: &[],
+        cycles: &[],
+        work: [0, 0, 0, 0, 0],
+        want: "mtrace 1\nmodel weak\nruns 0\n\
+            sum signatures 0 ok 0 cycle 0 outside 0\n\
+            work chunks 0 full 0 kept 0 resorted 0 nodes 0\n",
+        clean: true,
+    },
+    Case {
+        model: MemModel::Weak,
+        runs: 1000000,
+        inside: &[
+            &[u64::MAX, 1],
+            &[],
+            &[0x0123_4567_89ab_cdef],
+            &[],
+            &[u64::MAX, 1],
+            &[10],
+            &[],
+        ],
+        outside: &[
+            (4000000000, 7),
+            (10, 4294967295),
+            (4000000000, 7),
+            (9, 2048),
+        ],
+        cycles: &[&[], &[3], &[1, 10, 2047], &[]],
+        work: [12, 345, 18446744073709551615, 6, 1000000],
+        want: "mtrace 1\nmodel weak\nruns 1000000\n\
+            sig none count 3 ok\n\
+            sig 000000000000000a count 1 cycle 3\n\
+            sig 0123456789abcdef count 1 cycle 1 10 2047\n\
+            sig ffffffffffffffff.0000000000000001 count 2 ok\n\
+            outside 9 value 2048 count 1\n\
+            outside 10 value 4294967295 count 1\n\
+            outside 4000000000 value 7 count 2\n\
+            sum signatures 4 ok 2 cycle 2 outside 3\n\
+            work chunks 12 full 345 kept 18446744073709551615 resorted 6 nodes 1000000\n",
+        clean: false,
+    },
+];
+
+/// Whether the case's report is written as it must be, and is clean or not.
+fn is_written(alloc: Global, case: &Case<'_>) -> Result<bool, Fail> {
+    let (out, clean) = written(alloc, case)?;
+    Ok(out.as_slice() == case.want.as_bytes() && clean == case.clean)
+}
+
 #[test]
 fn reports_are_written(rt: HostRuntime) -> Result<(), Fail> {
-    let cases = [
-        Case {
-            model: MemModel::Sc,
-            runs: 1,
-            inside: &[&[0, 0]],
-            outside: &[],
-            cycles: &[&[0, 1, 2, 3]],
-            work: [1, 1, 0, 0, 0],
-            want: "mtrace 1\nmodel sc\nruns 1\n\
-                sig 0000000000000000.0000000000000000 count 1 cycle 0 1 2 3\n\
-                sum signatures 1 ok 0 cycle 1 outside 0\n\
-                work chunks 1 full 1 kept 0 resorted 0 nodes 0\n",
-            clean: false,
-        },
-        Case {
-            model: MemModel::Tso,
-            runs: 1,
-            inside: &[&[0, 0]],
-            outside: &[],
-            cycles: &[&[]],
-            work: [1, 1, 0, 0, 0],
-            want: "mtrace 1\nmodel tso\nruns 1\n\
-                sig 0000000000000000.0000000000000000 count 1 ok\n\
-                sum signatures 1 ok 1 cycle 0 outside 0\n\
-                work chunks 1 full 1 kept 0 resorted 0 nodes 0\n",
-            clean: true,
-        },
-        Case {
-            model: MemModel::Sc,
-            runs: 8,
-            inside: &[
-                &[1, 1],
-                &[1, 0],
-                &[0, 1],
-                &[0, 0],
-                &[1, 1],
-                &[1, 0],
-                &[0, 1],
-                &[0, 0],
-            ],
-            outside: &[],
-            cycles: &[&[0, 1, 2, 3], &[], &[], &[]],
-            work: [1, 2, 0, 2, 6],
-            want: "mtrace 1\nmodel sc\nruns 8\n\
-                sig 0000000000000000.0000000000000000 count 2 cycle 0 1 2 3\n\
-                sig 0000000000000000.0000000000000001 count 2 ok\n\
-                sig 0000000000000001.0000000000000000 count 2 ok\n\
-                sig 0000000000000001.0000000000000001 count 2 ok\n\
-                sum signatures 4 ok 3 cycle 1 outside 0\n\
-                work chunks 1 full 2 kept 0 resorted 2 nodes 6\n",
-            clean: false,
-        },
-        Case {
-            model: MemModel::Sc,
-            runs: 3,
-            inside: &[],
-            outside: &[(2, 1), (2, 0), (2, 9)],
-            cycles: &[],
-            work: [0, 0, 0, 0, 0],
-            want: "mtrace 1\nmodel sc\nruns 3\n\
-                outside 2 value 0 count 1\n\
-                outside 2 value 1 count 1\n\
-                outside 2 value 9 count 1\n\
-                sum signatures 0 ok 0 cycle 0 outside 3\n\
-                work chunks 0 full 0 kept 0 resorted 0 nodes 0\n",
-            clean: false,
-        },
-        Case {
-            model: MemModel::Weak,
-            runs: 0,
-            inside: &[],
-            outside: &[],
-            cycles: &[],
-            work: [0, 0, 0, 0, 0],
-            want: "mtrace 1\nmodel weak\nruns 0\n\
-                sum signatures 0 ok 0 cycle 0 outside 0\n\
-                work chunks 0 full 0 kept 0 resorted 0 nodes 0\n",
-            clean: true,
-        },
-        Case {
-            model: MemModel::Weak,
-            runs: 1000000,
-            inside: &[
-                &[u64::MAX, 1],
-                &[],
-                &[0x0123_4567_89ab_cdef],
-                &[],
-                &[u64::MAX, 1],
-                &[10],
-                &[],
-            ],
-            outside: &[
-                (4000000000, 7),
-                (10, 4294967295),
-                (4000000000, 7),
-                (9, 2048),
-            ],
-            cycles: &[&[], &[3], &[1, 10, 2047], &[]],
-            work: [12, 345, 18446744073709551615, 6, 1000000],
-            want: "mtrace 1\nmodel weak\nruns 1000000\n\
-                sig none count 3 ok\n\
-                sig 000000000000000a count 1 cycle 3\n\
-                sig 0123456789abcdef count 1 cycle 1 10 2047\n\
-                sig ffffffffffffffff.0000000000000001 count 2 ok\n\
-                outside 9 value 2048 count 1\n\
-                outside 10 value 4294967295 count 1\n\
-                outside 4000000000 value 7 count 2\n\
-                sum signatures 4 ok 2 cycle 2 outside 3\n\
-                work chunks 12 full 345 kept 18446744073709551615 resorted 6 nodes 1000000\n",
-            clean: false,
-        },
-    ];
-    for case in &cases {
-        let (out, clean) = written(rt.alloc(), case)?;
-        assert_eq!(rt; out.as_slice(), case.want.as_bytes());
-        assert_eq!(rt; clean, case.clean);
+    for case in &CASES {
+        assert!(rt; is_written(rt.alloc(), case)?);
     }
     Ok(())
 }

@@ -7,7 +7,7 @@ use Rattle.test_lang.specs.declared.text.read.ReadTest.{ReadTest}
 use Rattle.test_lang.specs.Program.{Program}
 use Rattle.test_lang.specs.Text.Grammar.{body_lines, test_lines, test_text, StartsWithTest}
 use Rattle.test_lang.specs.Text.Reading.{reading}
-use Rattle.test_lang.specs.Text.Refusal.{IsRefused, Means}
+use Rattle.test_lang.specs.Text.Refusal.{IsRefused, TextMeans}
 use Rattle.test_lang.specs.Text.Answer.{IsReadAs, IsRead, Answers}
 use Rattle.test_lang.proofs.TextLemmas.Readings.{reading_means, means_reading}
 use Rattle.test_lang.proofs.TextLemmas.SoFar.{few_lines}
@@ -28,11 +28,11 @@ module _ (bytes : List ℕ) where
         lines = as_p.lines ∙ ap (λ (q : Program). length (test_lines q)) test;
       }
 
-  answered : (result : Result ReadTest TestFault) (given : Result Program TestFault) → Answers result given → Means bytes given
+  answered : (result : Result ReadTest TestFault) (given : Result Program TestFault) → Answers result given → TextMeans bytes given
       → IfOk result (IsRead bytes) × IfErr result (λ fault. (fault ≡ Memory) ⊎ IsRefused bytes fault)
   answered (Ok read) (Ok p) h means = (read_is read p h means, tt)
   answered (Ok read) (Err fault) h means = absurd h
-  answered (Err fault) given h means = (tt, ⊎_elim (λ (e : fault ≡ Memory). inl e) (λ (e : given ≡ Err fault). inr (subst (Means bytes) e means)) h)
+  answered (Err fault) given h means = (tt, ⊎_elim (λ (e : fault ≡ Memory). inl e) (λ (e : given ≡ Err fault). inr (subst (TextMeans bytes) e means)) h)
 
   pub answer-found : (result : Result ReadTest TestFault) → Answers result (reading bytes) → IfOk result (IsRead bytes)
   answer-found result h = (answered result (reading bytes) h (reading_means bytes)).0
@@ -40,7 +40,7 @@ module _ (bytes : List ℕ) where
   pub answer-refused : (result : Result ReadTest TestFault) → Answers result (reading bytes) → IfErr result (λ fault. (fault ≡ Memory) ⊎ IsRefused bytes fault)
   answer-refused result h = (answered result (reading bytes) h (reading_means bytes)).1
 
-  pub answer-only : (result : Result ReadTest TestFault) (meant : Result Program TestFault) → Answers result (reading bytes) → Means bytes meant → Answers result meant
+  pub answer-only : (result : Result ReadTest TestFault) (meant : Result Program TestFault) → Answers result (reading bytes) → TextMeans bytes meant → Answers result meant
   answer-only result meant h means = subst (Answers result) (means_reading bytes meant means) h
 
   used_within : (read : ReadTest) → IsRead bytes read → read.used ≤ length bytes

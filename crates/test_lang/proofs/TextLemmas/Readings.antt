@@ -10,7 +10,7 @@ use Rattle.test_lang.specs.Program.{Program, HasWord, IsWithinLimits}
 use Rattle.test_lang.specs.Text.Line.{IsLine, StartsWithLine, IsInLines, closed, lines_of, on_first}
 use Rattle.test_lang.specs.Text.Grammar.{op_line, thread_lines, body_lines, test_lines, test_text, StartsWithTest}
 use Rattle.test_lang.specs.Text.Reading.{reading}
-use Rattle.test_lang.specs.Text.Refusal.{Begun, nothing, head, behind, begun_lines, IsWellBegun, IsBad, IsBadLine, Means}
+use Rattle.test_lang.specs.Text.Refusal.{Begun, nothing, head, behind, begun_lines, IsWellBegun, IsBad, IsBadLine, TextMeans}
 use Rattle.test_lang.proofs.TextLemmas.Lines.{lines_of-line, lines_of-none, lines_of-closed, closed-append}
 use Rattle.test_lang.proofs.TextLemmas.Forms.{IsLine-head, IsLine-words, IsLine-thread, IsLine-op, IsLine-end}
 use Rattle.test_lang.proofs.TextLemmas.Walking.{IsBadRest, below_256}
@@ -104,7 +104,7 @@ split_text : (text : List ℕ) (lines front rest : List (List ℕ)) (tail : List
 split_text text lines front rest tail whole parts =
     whole ∙ ap (λ (ls : List (List ℕ)). closed ls ++ tail) parts ∙ ap (λ (ys : List ℕ). ys ++ tail) (closed-append front rest) ∙ append_assoc (closed front) (closed rest) tail
 
-lines_mean-text : (text : List ℕ) (lines : List (List ℕ)) (tail : List ℕ) (read : Result Program TestFault) → IsInLines text lines tail → LinesMean lines read → Means text read
+lines_mean-text : (text : List ℕ) (lines : List (List ℕ)) (tail : List ℕ) (read : Result Program TestFault) → IsInLines text lines tail → LinesMean lines read → TextMeans text read
 lines_mean-text text lines tail (Ok p) is h =
     (closed h.rest ++ tail, record { limits = h.limits; some_thread = h.some_thread; whole = split_text text lines (test_lines p) h.rest tail is.whole h.whole })
 lines_mean-text text lines tail (Err fault) is h =
@@ -118,7 +118,7 @@ lines_mean-text text lines tail (Err fault) is h =
       number = h.number;
     }
 
-text_means-lines : (text : List ℕ) (read : Result Program TestFault) → Means text read → LinesMean (lines_of text) read
+text_means-lines : (text : List ℕ) (read : Result Program TestFault) → TextMeans text read → LinesMean (lines_of text) read
 text_means-lines text (Ok p) h = record {
   limits = h.1.limits;
   some_thread = h.1.some_thread;
@@ -135,11 +135,11 @@ text_means-lines text (Err fault) h = record {
 }
 
 -- What is read is meant.
-pub reading_means : (text : List ℕ) → Means text (reading text)
+pub reading_means : (text : List ℕ) → TextMeans text (reading text)
 reading_means text = let split = in_lines text in lines_mean-text text (lines_of text) (split.0) (reading text) (split.1) (lines_mean (lines_of text))
 
 -- What is meant is read.
-pub means_reading : (text : List ℕ) (read : Result Program TestFault) → Means text read → reading text ≡ read
+pub means_reading : (text : List ℕ) (read : Result Program TestFault) → TextMeans text read → reading text ≡ read
 means_reading text read h = mean_lines (lines_of text) read (text_means-lines text read h)
 
 -- The text of a test is read as that test, whatever stands behind it.
@@ -149,4 +149,4 @@ reading-test_text text p rest is limits some =
 
 -- What is read as a test begins with its text.
 pub reading-starts : (text : List ℕ) (p : Program) → reading text ≡ Ok p → (rest : List ℕ) × StartsWithTest text p rest
-reading-starts text p e = subst (Means text) e (reading_means text)
+reading-starts text p e = subst (TextMeans text) e (reading_means text)

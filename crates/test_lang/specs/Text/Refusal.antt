@@ -63,6 +63,6 @@ pub record IsRefused (text : List ℕ) (fault : TestFault) : Type 0 where
   pub number : number_of fault ≡ length (begun_lines begun) + 1
 
 -- What a text means: it begins with the text of a test, or is refused.
-abbrev pub Means : List ℕ → Result Program TestFault → Type 0
-Means text (Ok p) = (rest : List ℕ) × StartsWithTest text p rest
-Means text (Err fault) = IsRefused text fault
+abbrev pub TextMeans : List ℕ → Result Program TestFault → Type 0
+TextMeans text (Ok p) = (rest : List ℕ) × StartsWithTest text p rest
+TextMeans text (Err fault) = IsRefused text fault

@@ -1,25 +1,32 @@
 //! Which machine can carry which fault.
 use crate::target::{Fault, Target, fits};
 
-const FAULTS: [Fault; 6] = [
-    Fault::None,
-    Fault::Stale { node: 3 },
-    Fault::NoFence,
-    Fault::Unordered,
-    Fault::NoForward,
-    Fault::LoadLoad,
+const STALE: Fault = Fault::Stale { node: 3 };
+
+const ROWS: [(Target, Fault, bool); 18] = [
+    (Target::Sc, Fault::None, true),
+    (Target::Sc, STALE, true),
+    (Target::Sc, Fault::NoFence, false),
+    (Target::Sc, Fault::Unordered, false),
+    (Target::Sc, Fault::NoForward, false),
+    (Target::Sc, Fault::LoadLoad, false),
+    (Target::Tso, Fault::None, true),
+    (Target::Tso, STALE, true),
+    (Target::Tso, Fault::NoFence, true),
+    (Target::Tso, Fault::Unordered, true),
+    (Target::Tso, Fault::NoForward, true),
+    (Target::Tso, Fault::LoadLoad, false),
+    (Target::Weak, Fault::None, true),
+    (Target::Weak, STALE, true),
+    (Target::Weak, Fault::NoFence, true),
+    (Target::Weak, Fault::Unordered, false),
+    (Target::Weak, Fault::NoForward, true),
+    (Target::Weak, Fault::LoadLoad, true),
 ];
 
 #[test]
 fn faults_that_fit_a_machine(rt: HostRuntime) {
-    let rows = [
-        (Target::Sc, [true, true, false, false, false, false]),
-        (Target::Tso, [true, true, true, true, true, false]),
-        (Target::Weak, [true, true, true, false, true, true]),
-    ];
-    for (target, want) in rows {
-        for (fault, fit) in FAULTS.into_iter().zip(want) {
-            assert_eq!(rt; fits(target, fault), fit, "{target:?} {fault:?}");
-        }
+    for (target, fault, fit) in ROWS {
+        assert!(rt; fits(target, fault) == fit);
     }
 }

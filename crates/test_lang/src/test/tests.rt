@@ -96,79 +96,104 @@ const CASES: [Case; 6] = [
     },
 ];
 
+fn add(rt: &impl Abort, test: &mut Test, ops: &[Op]) -> Result<(), Fail> {
+    assert!(rt; test.threads() < MAX_THREADS);
+    test.add_thread()?;
+    for op in ops {
+        assert!(rt; test.threads() > 0 && test.ops() < MAX_OPS);
+        assert!(rt; test.has_word(*op));
+        test.add_op(*op)?;
+    }
+    Ok(())
+}
+
 fn build(rt: &impl Abort, alloc: Global, words: u32, threads: &[&[Op]]) -> Result<Test, Fail> {
     assert!(rt; 1 <= words && words <= MAX_WORDS);
     let mut test = Test::new(alloc, words);
     for ops in threads {
-        assert!(rt; test.threads() < MAX_THREADS);
-        test.add_thread()?;
-        for op in ops.iter() {
-            assert!(rt; test.threads() > 0 && test.ops() < MAX_OPS);
-            assert!(rt; test.has_word(*op));
-            test.add_op(*op)?;
-        }
+        add(rt, &mut test, ops)?;
     }
     Ok(test)
 }
 
-fn check_thread(rt: &impl Abort, test: &Test, thread: u32, ops: &[Op], first: u32) {
+// Each of the next four alone makes its calls, and hands their answers on without clauses.
+
+/// The first node of a thread, and its number of operations.
+fn thread_answers(rt: &impl Abort, test: &Test, thread: u32) -> (u32, u32) {
     assert!(rt; thread < test.threads());
-    assert_eq!(rt; test.first_of(thread), first);
-    assert_eq!(rt; test.len_of(thread) as usize, ops.len());
-    for (node, op) in (first..).zip(ops) {
-        assert!(rt; node < test.ops());
-        assert_eq!(rt; test.op(node), *op);
-        assert_eq!(rt; test.thread_of(node), thread);
-    }
+    (test.first_of(thread), test.len_of(thread))
 }
 
-fn check_threads(rt: &impl Abort, test: &Test, threads: &[&[Op]], first_nodes: &[u32]) {
-    let count = test.threads();
-    assert_eq!(rt; threads.len(), count as usize);
-    assert_eq!(rt; first_nodes.len(), count as usize);
-    for thread in 0..count {
-        check_thread(
-            rt,
-            test,
-            thread,
-            threads[thread as usize],
-            first_nodes[thread as usize],
-        );
+/// The operation of a node, and its thread.
+fn node_answers(rt: &impl Abort, test: &Test, node: u32) -> (Op, u32) {
+    assert!(rt; node < test.ops());
+    (test.op(node), test.thread_of(node))
+}
+
+/// The node of a load, and the rank of that.
+fn load_answers(rt: &impl Abort, test: &Test, rank: u32) -> (u32, u32) {
+    assert!(rt; rank < test.loads());
+    let node = test.load_at(rank);
+    (node, test.rank_of(node))
+}
+
+/// The node of a store, and the value of that.
+fn store_answers(rt: &impl Abort, test: &Test, value: u32) -> (u32, u32) {
+    assert!(rt; 1 <= value && value <= test.stores());
+    let node = test.store_of(value);
+    (node, test.value_of(node))
+}
+
+/// Checks the operations and the first node of each thread.
+pub(crate) fn check_threads(rt: &impl Abort, test: &Test, threads: &[&[Op]], first_nodes: &[u32]) {
+    assert!(rt; test.threads() as usize == threads.len());
+    assert!(rt; first_nodes.len() == threads.len());
+    let mut thread = 0;
+    let mut node = 0;
+    for (ops, first) in threads.iter().zip(first_nodes) {
+        assert!(rt; node == *first);
+        let (begin, len) = thread_answers(rt, test, thread);
+        assert!(rt; begin == node && len as usize == ops.len());
+        for op in ops.iter() {
+            assert!(rt; node_answers(rt, test, node) == (*op, thread));
+            node = node.saturating_add(1);
+        }
+        thread = thread.saturating_add(1);
     }
 }
 
 fn check_loads(rt: &impl Abort, test: &Test, loads: &[u32]) {
-    let count = test.loads();
-    assert_eq!(rt; loads.len(), count as usize);
-    for rank in 0..count {
-        let load = test.load_at(rank);
-        assert_eq!(rt; load, loads[rank as usize]);
-        assert_eq!(rt; test.rank_of(load), rank);
+    assert!(rt; test.loads() as usize == loads.len());
+    let mut rank: u32 = 0;
+    for node in loads {
+        assert!(rt; load_answers(rt, test, rank) == (*node, rank));
+        rank = rank.saturating_add(1);
     }
 }
 
 fn check_stores(rt: &impl Abort, test: &Test, stores: &[u32]) {
-    let count = test.stores();
-    assert_eq!(rt; stores.len(), count as usize);
-    for before in 0..count {
-        let store = test.store_of(before + 1);
-        assert_eq!(rt; store, stores[before as usize]);
-        assert_eq!(rt; test.value_of(store), before + 1);
+    assert!(rt; test.stores() as usize == stores.len());
+    let mut value: u32 = 1;
+    for node in stores {
+        assert!(rt; store_answers(rt, test, value) == (*node, value));
+        value = value.saturating_add(1);
     }
+}
+
+fn check(rt: &impl Abort, test: &Test, case: &Case) {
+    assert!(rt; test.words() == case.words);
+    assert!(rt; test.ops() == case.ops);
+    check_threads(rt, test, case.threads, case.first_nodes);
+    check_loads(rt, test, case.loads);
+    check_stores(rt, test, case.stores);
 }
 
 #[test]
 fn lookups(rt: HostRuntime) -> Result<(), Fail> {
     for case in &CASES {
         let test = build(&rt, rt.alloc(), case.words, case.threads)?;
-        assert_eq!(rt; test.words(), case.words);
-        assert_eq!(rt; test.ops(), case.ops);
-        check_threads(&rt, &test, case.threads, case.first_nodes);
-        check_loads(&rt, &test, case.loads);
-        check_stores(&rt, &test, case.stores);
-        let copy = test.clone()?;
-        assert_eq!(rt; copy.words(), case.words);
-        check_threads(&rt, &copy, case.threads, case.first_nodes);
+        check(&rt, &test, case);
+        check(&rt, &test.clone()?, case);
     }
     Ok(())
 }

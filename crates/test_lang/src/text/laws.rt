@@ -9,7 +9,7 @@ ghost use Rattle.test_lang.specs.Text.Line.{IsLine, IsInLines, closed, lines_of}
 ghost use Rattle.test_lang.specs.Text.Numeral.{IsNumeralOf, StartsWithNumeral, numeral_at, whole_numeral};
 ghost use Rattle.test_lang.specs.Text.Form.{HasForm, form_of};
 ghost use Rattle.test_lang.specs.Text.Reading.{reading};
-ghost use Rattle.test_lang.specs.Text.Refusal.{Means};
+ghost use Rattle.test_lang.specs.Text.Refusal.{TextMeans};
 
 /// A text is its lines, each closed by a line feed, and bytes without a line feed behind them.
 pub fn text_is_its_lines()
@@ -36,10 +36,10 @@ pub fn forms_are_read()
 /// What reading a text gives is what the text means: the test with whose text it begins, or why it is refused.
 pub fn texts_are_read()
     ensures { (text : List ℕ) (meant : Result Program TestFault) →
-        (reading text ≡ meant) ↔ Means text meant }
+        (reading text ≡ meant) ↔ TextMeans text meant }
 {}
 
 /// A text is that of one test, whatever stands behind it.
 pub fn one_test()
-    ensures { (text : List ℕ) (p q : Program) → Means text (Ok p) → Means text (Ok q) → p ≡ q }
+    ensures { (text : List ℕ) (p q : Program) → TextMeans text (Ok p) → TextMeans text (Ok q) → p ≡ q }
 {}

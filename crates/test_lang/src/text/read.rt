@@ -6,7 +6,7 @@ ghost use Rattle.test_lang.specs.declared.text.fault.TestFault.TheVariants.{Memo
 ghost use Rattle.test_lang.specs.Text.Line.{closed, lines_of};
 ghost use Rattle.test_lang.specs.Text.Grammar.{body_lines};
 ghost use Rattle.test_lang.specs.Text.Reading.{walk, words_of, reading};
-ghost use Rattle.test_lang.specs.Text.Refusal.{IsRefused, Means};
+ghost use Rattle.test_lang.specs.Text.Refusal.{IsRefused, TextMeans};
 ghost use Rattle.test_lang.specs.Text.Answer.{IsRead, Answers};
 ghost use Rattle.test_lang.specs.declared.text.fault.TestFault.{TestFault};
 
@@ -118,7 +118,7 @@ impl Test {
         ensures refused { IfErr result (λ fault. (fault ≡ Memory) ⊎ IsRefused bytes.now fault) }
         // What the bytes mean is answered, unless memory runs out.
         ensures only { (meant : Result Program TestFault) →
-            Means bytes.now meant → Answers result meant }
+            TextMeans bytes.now meant → Answers result meant }
         ensures used_within { IfOk result (λ read. read.used ≤ length bytes.now) }
         ensures few_lines { IfOk result (λ read. read.lines ≤ MAX_LINES) }
     {

@@ -2,9 +2,12 @@
 
 use crate::op::Op;
 use crate::test::Test;
+use crate::test::tests::check_threads;
 use crate::text::fault::TestFault;
 use crate::text::print::print;
+use crate::text::read::ReadTest;
 use std::alloc::{AllocError, Global};
+use std::process::Abort;
 use std::test::Fail;
 
 /// Bytes that begin with the text of a test.
@@ -14,6 +17,7 @@ struct Good {
     lines: u32,
     words: u32,
     threads: &'static [&'static [Op]],
+    first_nodes: &'static [u32],
 }
 
 const GOOD: [Good; 5] = [
@@ -24,6 +28,7 @@ const GOOD: [Good; 5] = [
         lines: 4,
         words: 1,
         threads: &[&[]],
+        first_nodes: &[0],
     },
     // Store buffering, and a run behind it.
     Good {
@@ -35,6 +40,7 @@ const GOOD: [Good; 5] = [
             &[Op::Store { word: 0 }, Op::Load { word: 1 }],
             &[Op::Store { word: 1 }, Op::Load { word: 0 }],
         ],
+        first_nodes: &[0, 2],
     },
     // Empty threads, and fences before, between and behind.
     Good {
@@ -48,6 +54,7 @@ const GOOD: [Good; 5] = [
             &[],
             &[Op::Fence],
         ],
+        first_nodes: &[0, 0, 3, 3],
     },
     // The largest words, and a second end behind the first.
     Good {
@@ -56,6 +63,7 @@ const GOOD: [Good; 5] = [
         lines: 6,
         words: 256,
         threads: &[&[Op::Load { word: 255 }, Op::Store { word: 100 }]],
+        first_nodes: &[0],
     },
     // Bytes behind the end are not looked at.
     Good {
@@ -64,207 +72,155 @@ const GOOD: [Good; 5] = [
         lines: 5,
         words: 1,
         threads: &[&[Op::Store { word: 0 }]],
+        first_nodes: &[0],
     },
 ];
 
-fn has_ops(test: &Test, first: u32, ops: &[Op]) -> bool {
-    for (node, op) in (first..).zip(ops) {
-        if node >= test.ops() || test.op(node) != *op {
-            return false;
-        }
-    }
-    true
+/// Reads the bytes, without the clauses of the call.
+fn read(alloc: Global, bytes: &[u8]) -> Result<ReadTest, TestFault> {
+    Test::read(alloc, bytes)
 }
 
-fn has_threads(test: &Test, threads: &[&[Op]]) -> bool {
-    for (thread, ops) in (0..).zip(threads) {
-        if thread >= test.threads() || test.len_of(thread) as usize != ops.len() {
-            return false;
-        }
-        if !has_ops(test, test.first_of(thread), ops) {
-            return false;
-        }
-    }
-    test.threads() as usize == threads.len()
+/// Checks that the test is printed so.
+fn check_print(rt: &impl Abort, alloc: Global, test: &Test, text: &[u8]) -> Result<(), AllocError> {
+    assert!(rt; test.threads() > 0);
+    assert!(rt; print(alloc, test)?.as_slice() == text);
+    Ok(())
 }
 
 #[test]
 fn reads_and_prints(rt: HostRuntime) -> Result<(), Fail> {
     for good in &GOOD {
-        let read = Test::read(rt.alloc(), good.bytes)?;
-        assert_eq!(rt; read.used, good.used);
-        assert_eq!(rt; read.lines, good.lines);
-        assert_eq!(rt; read.test.words(), good.words);
-        assert!(rt; has_threads(&read.test, good.threads));
-        assert!(rt; read.test.threads() > 0);
-        let text = print(rt.alloc(), &read.test)?;
+        let read = read(rt.alloc(), good.bytes)?;
+        assert!(rt; read.used == good.used);
+        assert!(rt; read.lines == good.lines);
+        assert!(rt; read.test.words() == good.words);
+        check_threads(&rt, &read.test, good.threads, good.first_nodes);
         assert!(rt; read.used <= good.bytes.len());
-        assert_eq!(rt; text.as_slice(), &good.bytes[..read.used]);
+        check_print(&rt, rt.alloc(), &read.test, &good.bytes[..read.used])?;
     }
     Ok(())
 }
 
-const REFUSED: [(&[u8], TestFault); 60] = [
+/// Texts by the refusal that they get.
+const REFUSED: [(TestFault, &[&[u8]]); 11] = [
     // An unclosed line comes before all.
-    (b"", TestFault::NoEnd { line: 1 }),
-    (b"mtest 1", TestFault::NoEnd { line: 1 }),
-    (b"mtest 2", TestFault::NoEnd { line: 1 }),
-    (b"mtest 1\n", TestFault::NoEnd { line: 2 }),
-    (b"mtest 1\nwords 999", TestFault::NoEnd { line: 2 }),
+    (TestFault::NoEnd { line: 1 }, &[b"", b"mtest 1", b"mtest 2"]),
     (
-        b"mtest 1\nwords 2\nthread\nst 0",
-        TestFault::NoEnd { line: 4 },
+        TestFault::NoEnd { line: 2 },
+        &[b"mtest 1\n", b"mtest 1\nwords 999"],
     ),
-    (b"mtest 1\nwords 2\nld 9", TestFault::NoEnd { line: 3 }),
     (
-        b"mtest 1\nwords 2\nthread\nend",
         TestFault::NoEnd { line: 4 },
+        &[
+            b"mtest 1\nwords 2\nthread\nst 0",
+            b"mtest 1\nwords 2\nthread\nend",
+            b"mtest 1\nwords 2\nthread\n",
+        ],
     ),
-    (b"mtest 1\nwords 2\nthread\n", TestFault::NoEnd { line: 4 }),
-    // The first line.
-    (b"mtest 2\n", TestFault::BadHead { line: 1 }),
-    (b"mtest 1 \n", TestFault::BadHead { line: 1 }),
-    (b"mtest  1\n", TestFault::BadHead { line: 1 }),
-    (b"mtest 01\n", TestFault::BadHead { line: 1 }),
-    (b"mtest 1\r\nwords 1\r\n", TestFault::BadHead { line: 1 }),
-    (b"Mtest 1\n", TestFault::BadHead { line: 1 }),
-    (b"\nmtest 1\n", TestFault::BadHead { line: 1 }),
-    (b"\xef\xbb\xbfmtest 1\n", TestFault::BadHead { line: 1 }),
+    (TestFault::NoEnd { line: 3 }, &[b"mtest 1\nwords 2\nld 9"]),
+    // The first line, and it comes before later ones.
+    (
+        TestFault::BadHead { line: 1 },
+        &[
+            b"mtest 2\n",
+            b"mtest 1 \n",
+            b"mtest  1\n",
+            b"mtest 01\n",
+            b"mtest 1\r\nwords 1\r\n",
+            b"Mtest 1\n",
+            b"\nmtest 1\n",
+            b"\xef\xbb\xbfmtest 1\n",
+            b"mtest 2\nwords 0\n",
+        ],
+    ),
     // The second line.
-    (b"mtest 1\nwords 0\n", TestFault::BadWords { line: 2 }),
-    (b"mtest 1\nwords 257\n", TestFault::BadWords { line: 2 }),
     (
-        b"mtest 1\nwords 4294967297\n",
         TestFault::BadWords { line: 2 },
+        &[
+            b"mtest 1\nwords 0\n",
+            b"mtest 1\nwords 257\n",
+            b"mtest 1\nwords 4294967297\n",
+            b"mtest 1\nwords 01\n",
+            b"mtest 1\nwords 1 \n",
+            b"mtest 1\nwords  1\n",
+            b"mtest 1\nwords\t1\n",
+            b"mtest 1\nwords +1\n",
+            b"mtest 1\nwords \n",
+            b"mtest 1\nwords\n",
+            b"mtest 1\nthread\n",
+            b"mtest 1\nwords 0\nld\n",
+        ],
     ),
-    (b"mtest 1\nwords 01\n", TestFault::BadWords { line: 2 }),
-    (b"mtest 1\nwords 1 \n", TestFault::BadWords { line: 2 }),
-    (b"mtest 1\nwords  1\n", TestFault::BadWords { line: 2 }),
-    (b"mtest 1\nwords\t1\n", TestFault::BadWords { line: 2 }),
-    (b"mtest 1\nwords +1\n", TestFault::BadWords { line: 2 }),
-    (b"mtest 1\nwords \n", TestFault::BadWords { line: 2 }),
-    (b"mtest 1\nwords\n", TestFault::BadWords { line: 2 }),
-    (b"mtest 1\nthread\n", TestFault::BadWords { line: 2 }),
     // The form of a later line comes before all that it says.
     (
-        b"mtest 1\nwords 1\nthread\nld 00\n",
         TestFault::BadLine { line: 4 },
-    ),
-    (b"mtest 1\nwords 1\nld 00\n", TestFault::BadLine { line: 3 }),
-    (
-        b"mtest 1\nwords 1\nthread\nld  0\n",
-        TestFault::BadLine { line: 4 },
-    ),
-    (
-        b"mtest 1\nwords 1\nthread\nld 0 \n",
-        TestFault::BadLine { line: 4 },
-    ),
-    (
-        b"mtest 1\nwords 1\nthread\nld 0\r\n",
-        TestFault::BadLine { line: 4 },
-    ),
-    (
-        b"mtest 1\nwords 1\nthread\nst\t0\n",
-        TestFault::BadLine { line: 4 },
-    ),
-    (
-        b"mtest 1\nwords 1\nthread\n st 0\n",
-        TestFault::BadLine { line: 4 },
+        &[
+            b"mtest 1\nwords 1\nthread\nld 00\n",
+            b"mtest 1\nwords 1\nthread\nld  0\n",
+            b"mtest 1\nwords 1\nthread\nld 0 \n",
+            b"mtest 1\nwords 1\nthread\nld 0\r\n",
+            b"mtest 1\nwords 1\nthread\nst\t0\n",
+            b"mtest 1\nwords 1\nthread\n st 0\n",
+            b"mtest 1\nwords 1\nthread\nst -0\n",
+            b"mtest 1\nwords 1\nthread\nst 0x0\n",
+            b"mtest 1\nwords 1\nthread\nst \xb2\n",
+            b"mtest 1\nwords 1\nthread\nst \n",
+            b"mtest 1\nwords 1\nthread\nst\n",
+            b"mtest 1\nwords 1\nthread\n\n",
+            b"mtest 1\nwords 1\nthread\nfence 0\n",
+            b"mtest 1\nwords 1\nthread\nfences\n",
+            b"mtest 1\nwords 1\nthread\nEND\n",
+            b"mtest 1\nwords 1\nthread\nend \n",
+            b"mtest 1\nwords 1\nthread\n# end\n",
+        ],
     ),
     (
-        b"mtest 1\nwords 1\nthread\nst -0\n",
-        TestFault::BadLine { line: 4 },
-    ),
-    (
-        b"mtest 1\nwords 1\nthread\nst 0x0\n",
-        TestFault::BadLine { line: 4 },
-    ),
-    (
-        b"mtest 1\nwords 1\nthread\nst \xb2\n",
-        TestFault::BadLine { line: 4 },
-    ),
-    (
-        b"mtest 1\nwords 1\nthread\nst \n",
-        TestFault::BadLine { line: 4 },
-    ),
-    (
-        b"mtest 1\nwords 1\nthread\nst\n",
-        TestFault::BadLine { line: 4 },
-    ),
-    (
-        b"mtest 1\nwords 1\nthread\n\n",
-        TestFault::BadLine { line: 4 },
-    ),
-    (
-        b"mtest 1\nwords 1\nthread \n",
         TestFault::BadLine { line: 3 },
-    ),
-    (
-        b"mtest 1\nwords 1\nthread\nfence 0\n",
-        TestFault::BadLine { line: 4 },
-    ),
-    (
-        b"mtest 1\nwords 1\nthread\nfences\n",
-        TestFault::BadLine { line: 4 },
-    ),
-    (
-        b"mtest 1\nwords 1\nthread\nEND\n",
-        TestFault::BadLine { line: 4 },
-    ),
-    (
-        b"mtest 1\nwords 1\nthread\nend \n",
-        TestFault::BadLine { line: 4 },
-    ),
-    (
-        b"mtest 1\nwords 1\nthread\n# end\n",
-        TestFault::BadLine { line: 4 },
+        &[b"mtest 1\nwords 1\nld 00\n", b"mtest 1\nwords 1\nthread \n"],
     ),
     // Before the first thread, and there before the range of words.
-    (b"mtest 1\nwords 1\nst 0\n", TestFault::NoThread { line: 3 }),
-    (b"mtest 1\nwords 1\nld 9\n", TestFault::NoThread { line: 3 }),
     (
-        b"mtest 1\nwords 1\nfence\n",
         TestFault::NoThread { line: 3 },
+        &[
+            b"mtest 1\nwords 1\nst 0\n",
+            b"mtest 1\nwords 1\nld 9\n",
+            b"mtest 1\nwords 1\nfence\n",
+            b"mtest 1\nwords 1\nend\n",
+            b"mtest 1\nwords 1\nfence\nthread",
+        ],
     ),
-    (b"mtest 1\nwords 1\nend\n", TestFault::NoThread { line: 3 }),
     // The range of words.
     (
-        b"mtest 1\nwords 2\nthread\nst 0\nld 2\nthread\nst 1\nld 0\nend\n",
         TestFault::WordRange { line: 5 },
+        &[b"mtest 1\nwords 2\nthread\nst 0\nld 2\nthread\nst 1\nld 0\nend\n"],
     ),
     (
-        b"mtest 1\nwords 256\nthread\nst 256\n",
         TestFault::WordRange { line: 4 },
-    ),
-    (
-        b"mtest 1\nwords 1\nthread\nld 4294967295\n",
-        TestFault::WordRange { line: 4 },
-    ),
-    (
-        b"mtest 1\nwords 1\nthread\nld 4294967296\n",
-        TestFault::WordRange { line: 4 },
-    ),
-    (
-        b"mtest 1\nwords 1\nthread\nld 18446744073709551616\n",
-        TestFault::WordRange { line: 4 },
-    ),
-    // An earlier line comes before a later one.
-    (b"mtest 2\nwords 0\n", TestFault::BadHead { line: 1 }),
-    (b"mtest 1\nwords 0\nld\n", TestFault::BadWords { line: 2 }),
-    (
-        b"mtest 1\nwords 1\nthread\nld 1\nld\n",
-        TestFault::WordRange { line: 4 },
-    ),
-    (
-        b"mtest 1\nwords 1\nfence\nthread",
-        TestFault::NoThread { line: 3 },
+        &[
+            b"mtest 1\nwords 256\nthread\nst 256\n",
+            b"mtest 1\nwords 1\nthread\nld 4294967295\n",
+            b"mtest 1\nwords 1\nthread\nld 4294967296\n",
+            b"mtest 1\nwords 1\nthread\nld 18446744073709551616\n",
+            b"mtest 1\nwords 1\nthread\nld 1\nld\n",
+        ],
     ),
 ];
 
+/// How the bytes are refused, if they are.
+fn refusal(alloc: Global, bytes: &[u8]) -> Option<TestFault> {
+    match Test::read(alloc, bytes) {
+        Ok(_) => None,
+        Err(fault) => Some(fault),
+    }
+}
+
 #[test]
 fn refuses(rt: HostRuntime) {
-    for (bytes, fault) in &REFUSED {
-        assert_eq!(rt; Test::read(rt.alloc(), bytes).err(), Some(*fault));
+    for (fault, texts) in &REFUSED {
+        for text in texts.iter() {
+            assert!(rt; refusal(rt.alloc(), text) == Some(*fault));
+        }
     }
 }
 
@@ -396,7 +352,7 @@ fn text_of(alloc: Global, long: &Long) -> Result<Vec<u8>, AllocError> {
 fn reads_up_to_the_limits(rt: HostRuntime) -> Result<(), Fail> {
     for long in &LONG {
         let text = text_of(rt.alloc(), long)?;
-        assert_eq!(rt; Test::read(rt.alloc(), &text).err(), long.fault);
+        assert!(rt; refusal(rt.alloc(), &text) == long.fault);
     }
     Ok(())
 }

@@ -3,7 +3,7 @@ use Rattle.std.specs.Prelude.{replicate}
 use Rattle.test_lang.specs.Program.{first_node, thread_length}
 use Rattle.test_lang.proofs.Threads.{first_node-suc, first_node_all}
 use Rattle.candidates.specs.declared.load_rows.OwnStores.{OwnStores}
-use Rattle.candidates.specs.Tables.{TellsLoads}
+use Rattle.candidates.specs.Tables.{TellsLoadRows}
 use Rattle.candidates.proofs.OwnBlocks.{CountsStores, blocks_begin, counts_none, counts_of_blocks, loads_none}
 use Rattle.candidates.proofs.load_rows.list_loads.Goals as goal
 
@@ -28,7 +28,7 @@ loop-thread-preserved c =
     let end : first_node p t + thread_length p t ≡ first_node p (t + 1) = sym (ap (first_node p) (add-one t) ∙ first_node-suc p t) in
     record {
       counts = subst (λ n. CountsStores p n c.push_loads.new.own) end (counts_of_blocks p t (first_node p t + thread_length p t) (first_node p t + thread_length p t) c.push_loads.new.own c.in_ok-push_loads.ensures.blocks);
-      loads = subst (λ n. TellsLoads p c.args.stores.now.values.items n c.push_loads.new.rows.items) end c.in_ok-push_loads.ensures.loads;
+      loads = subst (λ n. TellsLoadRows p c.args.stores.now.values.items n c.push_loads.new.rows.items) end c.in_ok-push_loads.ensures.loads;
     }
 
 pub returns : goal.returns
@@ -36,4 +36,4 @@ returns c =
     let p = c.args.test.now in
     let past = c.loop-thread-test.false in
     let all = c.threads-thread-end.ensures.count in
-    subst (λ n. TellsLoads p c.args.stores.now.values.items n c.loop-thread.rows.items) (first_node_all p c.loop-thread.thread (omega (arith, past, all))) c.loop-thread.invariant.loads
+    subst (λ n. TellsLoadRows p c.args.stores.now.values.items n c.loop-thread.rows.items) (first_node_all p c.loop-thread.thread (omega (arith, past, all))) c.loop-thread.invariant.loads

@@ -1,5 +1,5 @@
-use Rattle.mtrace_app.proofs.SomeMeaning.{some_meaning}
+use Rattle.mtrace_app.proofs.ByCommand.{some_meaning_by}
 use Rattle.mtrace_app.proofs.laws.inputs_say_something.Goals as goal
 
 pub returns : goal.returns
-returns c = some_meaning
+returns c = λ s bytes check. some_meaning_by s.command bytes check

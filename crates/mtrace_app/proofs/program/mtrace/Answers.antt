@@ -1,43 +1,38 @@
-use Rattle.std.proofs.Common.{List, [], Result, Ok, Err, append-nil, sym}
-use Rattle.std.specs.Prelude.{ℕ, Option, OnErr, OnOk}
-use Rattle.std.specs.Io.KnownBytes.{Appends}
-use Rattle.mtrace_app.specs.Writing.{AppendsFront}
-use Rattle.mtrace_app.proofs.Complete.{answered}
-use Rattle.mtrace_app.proofs.Written.{cause_stays, line_tells, read_fault_was, writes_answer}
+use Rattle.mtrace_app.specs.Answers.{texts}
+use Rattle.mtrace_app.specs.Outside.{change}
+use Rattle.mtrace_app.proofs.Answered.{answers, ends_with, told_by, too_large_stays}
+use Rattle.mtrace_app.proofs.Causes.{where_told}
+use Rattle.mtrace_app.proofs.Due.{due_of}
 use Rattle.mtrace_app.proofs.program.mtrace.Goals as goal
 
--- the whole of the bytes, or the front of them that was put
-front_of : {X E : Type 0} (r : Result X E) (before now : Option (List ℕ)) (bytes : List ℕ) → OnOk r (Appends before now bytes) → OnErr r (AppendsFront before now bytes) → AppendsFront before now bytes
-front_of (Ok x) before now bytes whole front = record { front = bytes; rest = []; whole = sym (append-nil bytes); appended = whole }
-front_of (Err e) before now bytes whole front = front
+pub returns-clause-answered : goal.returns-clause-answered
+returns-clause-answered g c =
+    let source = change (g.S.Source.left c.args.source.now) (g.S.Source.left c.answer_words-answer.new.source) (g.S.Source.faults c.args.source.now) (g.S.Source.faults c.answer_words-answer.new.source) in
+    let sink = change (g.K.Sink.held c.args.sink.now) (g.K.Sink.held c.put_output-status.new.sink) (g.K.Sink.faults c.args.sink.now) (g.K.Sink.faults c.put_output-status.new.sink) in
+    let errs = change (g.E.Sink.held c.args.errs.now) (g.E.Sink.held c.put_all.new.sink) (g.E.Sink.faults c.args.errs.now) (g.E.Sink.faults c.put_all.new.sink) in (
+      c.told.result.now,
+      answers sink c.put_output-status.result (texts c.args.words.now) source c.answer_words-answer.result c.told.result.now c.answer_words-answer.ensures.answer c.put_output-status.ensures.put
+          c.told.ensures.failed c.told.ensures.other,
+      told_by c.put_all.result c.told.result.now errs c.put_all.ensures.whole c.put_all.ensures.fault c.put_all.ensures.front,
+    )
 
-pub returns-clause-caused : goal.returns-clause-caused
-returns-clause-caused g c = λ s settings check.
-    cause_stays (g.K.Sink.held c.args.sink.now) (g.K.Sink.held c.write_report-status.new.sink) c.write_report-status.result s.model s.chunk (g.S.Source.left c.args.source.now)
-    (g.S.Source.left c.answer-answer.new.source) c.answer-answer.result c.write_report-status.ensures.written (c.answer-answer.ensures.caused s settings check)
-
-pub returns-clause-report : goal.returns-clause-report
-returns-clause-report g c = λ s settings check.
-    writes_answer (g.K.Sink.held c.args.sink.now) (g.K.Sink.held c.write_report-status.new.sink) c.write_report-status.result s.model s.chunk (g.S.Source.left c.args.source.now)
-    (g.S.Source.left c.answer-answer.new.source) c.answer-answer.result c.write_report-status.ensures.written (c.answer-answer.ensures.reports s settings)
-
-pub returns-clause-front : goal.returns-clause-front
-returns-clause-front g c = (
-  c.told.result.now,
-  line_tells (g.K.Sink.held c.args.sink.now) (g.K.Sink.held c.write_report-status.new.sink) c.write_report-status.result (g.S.Source.left c.args.source.now)
-      (g.S.Source.left c.answer-answer.new.source) c.answer-answer.result c.told.result.now c.write_report-status.ensures.written c.answer-answer.ensures.no_write_fault c.told.ensures.failed
-      c.told.ensures.other c.answer-answer.ensures.line,
-  front_of c.put_all.result (g.E.Sink.held c.args.errs.now) (g.E.Sink.held c.put_all.new.sink) c.told.result.now c.put_all.ensures.whole c.put_all.ensures.front,
-)
+pub returns-clause-by_words : goal.returns-clause-by_words
+returns-clause-by_words g c = λ refusal due.
+    let h = c.answer_words-answer.ensures.by_words refusal due in
+    let sink = change (g.K.Sink.held c.args.sink.now) (g.K.Sink.held c.put_output-status.new.sink) (g.K.Sink.faults c.args.sink.now) (g.K.Sink.faults c.put_output-status.new.sink) in
+    let ended = ends_with sink c.put_output-status.result refusal c.answer_words-answer.result c.put_output-status.ensures.put h.0 in
+    (ended.0, h.1, ended.1)
 
 pub returns-clause-complete : goal.returns-clause-complete
-returns-clause-complete g c = λ s settings check quiet.
-    let held = g.K.Sink.held c.args.sink.now in
-    let held' = g.K.Sink.held c.write_report-status.new.sink in
-    let before = g.S.Source.left c.args.source.now in
-    let now = g.S.Source.left c.answer-answer.new.source in
-    answered s.model s.chunk before now (g.K.Sink.faults c.args.sink.now) (g.K.Sink.faults c.write_report-status.new.sink) c.write_report-status.result
-    (cause_stays held held' c.write_report-status.result s.model s.chunk before now c.answer-answer.result c.write_report-status.ensures.written (c.answer-answer.ensures.caused s settings check))
-    c.answer-answer.ensures.rest
-    (λ e. quiet (c.answer-answer.ensures.read_fault (read_fault_was held held' c.write_report-status.result c.answer-answer.result c.write_report-status.ensures.written e)))
-    c.write_report-status.ensures.fault
+returns-clause-complete g c = λ s settings quiet.
+    let source = change (g.S.Source.left c.args.source.now) (g.S.Source.left c.answer_words-answer.new.source) (g.S.Source.faults c.args.source.now) (g.S.Source.faults c.answer_words-answer.new.source) in
+    let sink = change (g.K.Sink.held c.args.sink.now) (g.K.Sink.held c.put_output-status.new.sink) (g.K.Sink.faults c.args.sink.now) (g.K.Sink.faults c.put_output-status.new.sink) in
+    due_of (texts c.args.words.now) s source sink c.put_output-status.result c.told.result.now settings c.answer_words-answer.ensures.rest quiet
+    (answers sink c.put_output-status.result (texts c.args.words.now) source c.answer_words-answer.result c.told.result.now c.answer_words-answer.ensures.answer c.put_output-status.ensures.put
+    c.told.ensures.failed c.told.ensures.other)
+
+pub returns-clause-too_large : goal.returns-clause-too_large
+returns-clause-too_large g c =
+    let sink = change (g.K.Sink.held c.args.sink.now) (g.K.Sink.held c.put_output-status.new.sink) (g.K.Sink.faults c.args.sink.now) (g.K.Sink.faults c.put_output-status.new.sink) in
+    where_told (g.S.Source.left c.args.source.now) (g.S.Source.left c.answer_words-answer.new.source) _ _
+    (λ before now large past. too_large_stays sink c.put_output-status.result c.answer_words-answer.result c.put_output-status.ensures.put (large past)) c.answer_words-answer.ensures.too_large

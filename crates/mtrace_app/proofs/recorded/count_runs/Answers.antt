@@ -1,7 +1,7 @@
 use Rattle.std.proofs.Common.{◌∙◌, arith, rules, length, refl, sym, ap, inl, inr}
 use Rattle.std.proofs.lemmas.Result.{err_from_is_err_and}
 use Rattle.run_text.specs.Reader.{Reader}
-use Rattle.mtrace_app.specs.Recorded.{text_behind}
+use Rattle.mtrace_app.specs.Inputs.{text_behind}
 use Rattle.mtrace_app.proofs.RunsSoFar.{counted_all, length_lent, read_end, read_on, reader_of, so_far-end, so_far-none, so_far-push, so_far-refused}
 use Rattle.mtrace_app.proofs.recorded.count_runs.Goals as goal
 

@@ -1,6 +1,6 @@
 use Rattle.std.proofs.Common.{◌≡◌, length}
 use Rattle.test_lang.specs.Signatures.{groups}
-use Rattle.mtrace_app.specs.Recorded.{text_behind}
+use Rattle.mtrace_app.specs.Inputs.{text_behind}
 use Rattle.mtrace_app.proofs.RunsSoFar.{IsSoFar}
 use Rattle.mtrace_app.proofs.recorded.count_runs.Given as goal
 

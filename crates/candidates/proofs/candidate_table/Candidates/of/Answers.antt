@@ -4,7 +4,7 @@ use Rattle.std.proofs.lemmas.Option.{slice_get-get_or}
 use Rattle.test_lang.specs.Program.{nodes}
 use Rattle.test_lang.proofs.Places.{load_node, passing_all}
 use Rattle.candidates.specs.Places.{TabulatesPlaces}
-use Rattle.candidates.specs.Tables.{Tabulates}
+use Rattle.candidates.specs.Tables.{TabulatesCandidates}
 use Rattle.candidates.proofs.PlaceRows.{place-short}
 use Rattle.candidates.proofs.candidate_table.Candidates.of.Goals as goal
 
@@ -29,7 +29,7 @@ invariant_of-result c =
     let loads = c.in_ok-loads.loads in
     let told = c.in_ok-loads.ensures in
     let places = c.in_ok-places.ensures in (
-      subst (λ q. Tabulates q loads.items stores.rows.items stores.values.items) (sym c.in_ok-clone.ensures.cases) (record {
+      subst (λ q. TabulatesCandidates q loads.items stores.rows.items stores.values.items) (sym c.in_ok-clone.ensures.cases) (record {
         limits = c.of.ensures.limits;
         one_row_each = c.in_ok-stores.ensures.count;
         stores_placed = c.in_ok-stores.ensures.rows;

@@ -1,0 +1,76 @@
+-- What was taken of a source, and the causes of refusals.
+use Rattle.std.proofs.Common.{◌≡◌, ℕ, List, [], Bool, sym, ap, subst, arith, inr}
+use Rattle.std.specs.Prelude.{◌↔◌, Option, Some, None, Ok, IfSome, IsErrOf, IsTrue, if◌then◌else◌}
+use Rattle.std.specs.Io.KnownBytes.{IsAtEnd}
+use Rattle.command_line.specs.declared.meaning.Command.TheVariants.{Check}
+use Rattle.command_line.specs.declared.meaning.Settings.{Settings}
+use Rattle.command_line.specs.Settings.{HasSettings}
+use Rattle.mtrace_app.specs.declared.failure.Failure.{Failure}
+use Rattle.mtrace_app.specs.declared.failure.Failure.TheVariants.{Refused, Memory}
+use Rattle.mtrace_app.specs.declared.reading.ReadError.TheVariants.{TooLarge as PastEnd}
+use Rattle.mtrace_app.specs.declared.refusal.Refusal.{Refusal}
+use Rattle.mtrace_app.specs.declared.refusal.Refusal.TheVariants.{Words, NotBuilt, ReadFault, Input, TooLarge}
+use Rattle.mtrace_app.specs.declared.refusal.Size.TheVariants.{Bytes, Runs, Values}
+use Rattle.mtrace_app.specs.Answers.{HasCause, IsCause, RefusesInput}
+use Rattle.mtrace_app.specs.Failures.{IfRefused}
+use Rattle.mtrace_app.specs.Inputs.{reads}
+use Rattle.mtrace_app.specs.Outputs.{IsOfInput, TakesBy}
+use Rattle.mtrace_app.specs.Outside.{Change, IsPastLimit, IsWithinLimit, WhereTold}
+
+-- where the bytes are told, they are the ones that were read
+told_all : (old : Option (List ℕ)) (bytes : List ℕ) → IfSome old (λ left. bytes ≡ left) → (P : List ℕ → Type 0) → P bytes → IfSome old P
+told_all None bytes same P h = tt
+told_all (Some xs) bytes same P h = subst P same h
+
+-- what isn't past the limit is within it
+within_limit : (xs ys : List ℕ) → (IsPastLimit xs ys → ⊥) → IsWithinLimit xs ys
+within_limit xs ys h = omega arith
+
+pub where_told : (before now : Option (List ℕ)) (P Q : List ℕ → List ℕ → Type 0) → ((xs ys : List ℕ) → P xs ys → Q xs ys) → WhereTold before now P → WhereTold before now Q
+where_told None now P Q more h = tt
+where_told (Some xs) None P Q more h = tt
+where_told (Some xs) (Some ys) P Q more h = more xs ys h
+
+-- an input that was read isn't past the limit
+not_past : {X : Type 0} (bytes : X) (before now : Option (List ℕ)) → WhereTold before now (λ xs ys. IsErrOf (Ok bytes) PastEnd ↔ IsPastLimit xs ys) → WhereTold before now IsWithinLimit
+not_past bytes before now = where_told before now _ IsWithinLimit (λ xs ys h. within_limit xs ys (λ past. let e = h.1 past in cc))
+
+module _ (s : Settings) (check : s.command ≡ Check) (source : Change) where
+  -- `check` reads
+  pub check_reads : IsTrue (reads s.command)
+  check_reads = ap reads check
+
+  -- the bytes that were read are those of the input
+  pub of_input : {X : Type 0} (whole : X) (bytes : List ℕ) → IsAtEnd source.now → WhereTold source.before source.now (λ xs ys. IsErrOf (Ok whole) PastEnd ↔ IsPastLimit xs ys) → IfSome source.before (λ left. bytes ≡ left)
+      → (P : List ℕ → Type 0) → P bytes → IsOfInput s source P
+  of_input whole bytes end within same P h =
+      subst (λ (b : Bool). TakesBy b source × IfSome (if b then source.before else Some []) P) (sym check_reads)
+      ((end, not_past whole source.before source.now within), told_all source.before bytes same P h)
+
+  -- the bytes that were read have no output
+  cause_of : {X : Type 0} (whole : X) (bytes : List ℕ) → IsAtEnd source.now → WhereTold source.before source.now (λ xs ys. IsErrOf (Ok whole) PastEnd ↔ IsPastLimit xs ys) → IfSome source.before (λ left. bytes ≡ left)
+      → (refusal : Refusal) → RefusesInput s bytes refusal → IsCause s source refusal
+  cause_of whole bytes end within same Words h = absurd h
+  cause_of whole bytes end within same ReadFault h = absurd h
+  cause_of whole bytes end within same NotBuilt h = inr (of_input whole bytes end within same (λ b. RefusesInput s b NotBuilt) h)
+  cause_of whole bytes end within same (Input fault) h = of_input whole bytes end within same (λ b. RefusesInput s b (Input fault)) h
+  cause_of whole bytes end within same (TooLarge Bytes) h = absurd h.3
+  cause_of whole bytes end within same (TooLarge (Runs n)) h = of_input whole bytes end within same (λ b. RefusesInput s b (TooLarge (Runs n))) h
+  cause_of whole bytes end within same (TooLarge (Values n)) h = of_input whole bytes end within same (λ b. RefusesInput s b (TooLarge (Values n))) h
+
+  pub causes_of : {X : Type 0} (whole : X) (bytes : List ℕ) → IsAtEnd source.now → WhereTold source.before source.now (λ xs ys. IsErrOf (Ok whole) PastEnd ↔ IsPastLimit xs ys) → IfSome source.before (λ left. bytes ≡ left)
+      → (failure : Failure) → IfRefused (RefusesInput s bytes) failure → IfRefused (IsCause s source) failure
+  causes_of whole bytes end within same (Refused refusal) h = cause_of whole bytes end within same refusal h
+  causes_of whole bytes end within same Memory h = tt
+
+-- the cause of a command's refusal is that of the words
+cause_by_words : (words : List (List ℕ)) (s : Settings) (source : Change) → HasSettings words s → (refusal : Refusal) → IsCause s source refusal → HasCause words source refusal
+cause_by_words words s source settings Words h = absurd h
+cause_by_words words s source settings NotBuilt h = (s, settings, h)
+cause_by_words words s source settings ReadFault h = (s, settings, h)
+cause_by_words words s source settings (Input fault) h = (s, settings, h)
+cause_by_words words s source settings (TooLarge size) h = (s, settings, h)
+
+pub causes_by_words : (words : List (List ℕ)) (s : Settings) (source : Change) → HasSettings words s → (failure : Failure) → IfRefused (IsCause s source) failure → IfRefused (HasCause words source) failure
+causes_by_words words s source settings (Refused refusal) h = cause_by_words words s source settings refusal h
+causes_by_words words s source settings Memory h = tt

@@ -1,0 +1,92 @@
+-- What `check` writes for an input, by what was read and counted of it.
+use Rattle.std.proofs.Common.{◌≡◌, ◌∙◌, ◌⊎◌, ℕ, ◌≤◌, List, length, Bool, true, false, Result, Ok, Err, not, ◌&&◌, ap, sym, subst}
+use Rattle.std.specs.Prelude.{IfOk}
+use Rattle.std.specs.Bool.{OnFalse}
+use Rattle.tally.specs.declared.outcome.Outcome.{Outcome}
+use Rattle.test_lang.specs.declared.op.MemModel.{MemModel}
+use Rattle.test_lang.specs.Program.{Program}
+use Rattle.test_lang.specs.Values.{load_count}
+use Rattle.verdict_report.specs.declared.report.Judged.{Judged}
+use Rattle.verdict_report.specs.Lines.{signatures, report_text_of, has_cycle, has_outside}
+use Rattle.command_line.specs.declared.meaning.Command.{Command}
+use Rattle.command_line.specs.declared.meaning.Command.TheVariants.{Check}
+use Rattle.command_line.specs.declared.meaning.Settings.{Settings}
+use Rattle.mtrace_app.specs.declared.failure.Failure.{Failure}
+use Rattle.mtrace_app.specs.declared.failure.Failure.TheVariants.{Refused, Memory}
+use Rattle.mtrace_app.specs.declared.refusal.InputFault.{InputFault}
+use Rattle.mtrace_app.specs.declared.refusal.Refusal.{Refusal}
+use Rattle.mtrace_app.specs.declared.refusal.Refusal.TheVariants.{Input}
+use Rattle.mtrace_app.specs.declared.refusal.Size.{Size}
+use Rattle.mtrace_app.specs.Answers.{IsTooLarge, RefusesInput}
+use Rattle.mtrace_app.specs.Counted.{AreCounted, AreCountedWithin}
+use Rattle.mtrace_app.specs.Failures.{IfRefused}
+use Rattle.mtrace_app.specs.Inputs.{AreRecordedRuns, AreRefusedRecords, RecordsBy, RefusesBy}
+use Rattle.mtrace_app.specs.Limits.{FitLimits, PassLimit}
+use Rattle.mtrace_app.specs.Outputs.{IsOutputOf, OutputsBy}
+use Rattle.mtrace_app.specs.Report.{AreJudged, IsReport, work_alone}
+use Rattle.mtrace_app.proofs.JudgedSoFar.{length-judged}
+
+-- what holds where a test says no
+pub no_of : (b : Bool) (P : Type 0) → b ≡ false → OnFalse b P → P
+no_of true P e h = absurd cc
+no_of false P e h = h
+
+-- what holds of a result holds of it in a weaker form
+pub if_ok_more : {X E : Type 0} (r : Result X E) (P Q : X → Type 0) → ((x : X) → P x → Q x) → IfOk r P → IfOk r Q
+if_ok_more (Ok x) P Q more h = more x h
+if_ok_more (Err e) P Q more h = h
+
+-- ---- the report of counted runs
+
+-- the report that is made of verdicts
+pub report_by : (model : MemModel) (chunk : ℕ) (p : Program) (runs : List (List ℕ)) (count chunks : ℕ) (tally : List (Outcome × ℕ)) (lent found : List Judged) (text : List ℕ) (is_clean : Bool)
+    → lent ≡ found → AreJudged model p (signatures tally) found → chunks ≡ length found → text ≡ report_text_of model count tally lent (work_alone chunks) → is_clean ≡ (not (has_cycle lent) && not (has_outside tally))
+    → (chunk ≡ 1) ⊎ (length (signatures tally) ≤ 1) → AreCounted p runs count tally → IsReport model chunk p runs text is_clean
+report_by model chunk p runs count chunks tally lent found text is_clean same judged number whole clean alone counted = record {
+  findings = record { tally = tally; verdicts = found; work = work_alone (length (signatures tally)) };
+  found = record { counts = counted.counts; sum = counted.sum; judged = judged; works = record { alone = alone; numbers = λ i. work_alone (length (signatures tally)) } };
+  whole =
+      whole ∙ ap (λ (js : List Judged). report_text_of model count tally js (work_alone chunks)) same
+      ∙ ap (λ (n : ℕ). report_text_of model count tally found (work_alone n)) (number ∙ length-judged model p (signatures tally) found judged)
+      ∙ ap (λ (n : ℕ). report_text_of model n tally found (work_alone (length (signatures tally)))) counted.number;
+  clean = clean ∙ ap (λ (js : List Judged). not (has_cycle js) && not (has_outside tally)) same;
+}
+
+-- ---- what `check` answers recorded runs
+
+module _ (s : Settings) (check : s.command ≡ Check) (bytes : List ℕ) where
+  as_recorded : (p : Program) (runs : List (List ℕ)) → AreRecordedRuns bytes p runs → RecordsBy s.command bytes p runs
+  as_recorded p runs h = subst (λ (c : Command). RecordsBy c bytes p runs) (sym check) h
+
+  refuses : (refusal : Refusal) → ((fault : InputFault) × (refusal ≡ Input fault) × AreRefusedRecords bytes fault) → RefusesInput s bytes refusal
+  refuses refusal h = subst (RefusesInput s bytes) (sym h.1) (subst (λ (c : Command). RefusesBy c bytes h.0) (sym check) h.2)
+
+  -- an input that wasn't read
+  pub refuses_input : (failure : Failure) → IfRefused (λ refusal. (fault : InputFault) × (refusal ≡ Input fault) × AreRefusedRecords bytes fault) failure → IfRefused (RefusesInput s bytes) failure
+  refuses_input (Refused refusal) h = refuses refusal h
+  refuses_input Memory h = tt
+
+  module _ (p : Program) (runs : List (List ℕ)) (count : ℕ) (tally : List (Outcome × ℕ)) (read : AreRecordedRuns bytes p runs) (counted : AreCountedWithin p runs count tally) where
+    -- recorded runs that pass a limit
+    pub too_large : (loads : ℕ) (size : Size) → loads ≡ load_count p → PassLimit count loads size → IsTooLarge s bytes size
+    too_large loads size same pass = (p, count, (runs, as_recorded p runs read, counted.number), subst (λ (n : ℕ). PassLimit count n size) same pass)
+
+    module _ (loads : ℕ) (same : loads ≡ load_count p) (fit : FitLimits count loads) where
+      fit_here : FitLimits count (load_count p)
+      fit_here = subst (λ (n : ℕ). FitLimits count n) same fit
+
+      fit_runs : FitLimits (length runs) (load_count p)
+      fit_runs = subst (λ (n : ℕ). FitLimits n (load_count p)) counted.number fit_here
+
+      pub counted_here : AreCounted p runs count tally
+      counted_here = counted.counted fit_here
+
+      -- all other recorded runs
+      pub output_here : (text : List ℕ) (is_clean : Bool) → IsReport s.model s.chunk p runs text is_clean → IsOutputOf s bytes text is_clean
+      output_here text is_clean report = record {
+        test = p;
+        runs = runs;
+        recorded = as_recorded p runs read;
+        limits = fit_runs;
+        output = subst (λ (c : Command). OutputsBy c s p runs text is_clean) (sym check) report;
+      }

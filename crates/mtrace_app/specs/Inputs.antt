@@ -1,0 +1,90 @@
+-- What the bytes mean that a command takes: a test with recorded runs, or the refusal of their first bad line.
+use Rattle.std.specs.Prelude.{◌≡◌, ℕ, ◌+◌, List, length, Bool, true, false, Option, Some, None}
+use Rattle.test_lang.specs.Program.{Program}
+use Rattle.test_lang.specs.Values.{load_count}
+use Rattle.test_lang.specs.declared.text.fault.TestFault.{TestFault}
+use Rattle.test_lang.specs.declared.text.fault.TestFault.TheVariants.{BadHead as BadHeadLine, BadWords as BadWordsLine, BadLine as BadTestLine, WordRange as WordRangeLine, TooManyThreads as TooManyThreadsLine, TooManyOps as TooManyOpsLine, NoThread as NoThreadLine, NoEnd as NoEndLine, Memory as MemoryOfTest}
+use Rattle.test_lang.specs.Text.Grammar.{test_lines, StartsWithTest}
+use Rattle.test_lang.specs.Text.Refusal.{IsRefused as IsRefusedTest}
+use Rattle.run_text.specs.declared.fault.RunFault.{RunFault}
+use Rattle.run_text.specs.declared.fault.RunFault.TheVariants.{BadRunLine as BadLineOfRun, WrongCount as WrongCountLine, ValueRange as ValueRangeLine, NoDone as NoDoneLine, AfterDone as AfterDoneLine, Memory as MemoryOfRuns}
+use Rattle.run_text.specs.Reader.{Reader}
+use Rattle.run_text.specs.Runs.{AreRunsOf, runs_text, IsRefused as AreRefusedRuns}
+use Rattle.command_line.specs.declared.meaning.Command.{Command}
+use Rattle.command_line.specs.declared.meaning.Command.TheVariants.{Check, Generate, Demo}
+use Rattle.command_line.specs.declared.meaning.Settings.{Settings}
+use Rattle.mtrace_app.specs.declared.refusal.InputFault.{InputFault}
+use Rattle.mtrace_app.specs.declared.refusal.Reason.{Reason}
+use Rattle.mtrace_app.specs.declared.refusal.Reason.TheVariants.{BadHead, BadWords, BadLine, WordRange, TooManyThreads, TooManyOps, NoThread, NoEnd, BadRunLine, WrongCount, ValueRange, NoDone, AfterDone}
+
+-- whether a command takes bytes
+abbrev pub reads : Command → Bool
+reads Generate = false
+reads Demo = false
+reads command = true
+
+-- ---- the refusals of the texts, as those of an input
+
+abbrev pub fault_at : ℕ → Reason → Option InputFault
+fault_at line reason = Some (record { line = line; reason = reason })
+
+abbrev pub fault_in_test : TestFault → Option InputFault
+fault_in_test (BadHeadLine line) = fault_at line BadHead
+fault_in_test (BadWordsLine line) = fault_at line BadWords
+fault_in_test (BadTestLine line) = fault_at line BadLine
+fault_in_test (WordRangeLine line) = fault_at line WordRange
+fault_in_test (TooManyThreadsLine line) = fault_at line TooManyThreads
+fault_in_test (TooManyOpsLine line) = fault_at line TooManyOps
+fault_in_test (NoThreadLine line) = fault_at line NoThread
+fault_in_test (NoEndLine line) = fault_at line NoEnd
+fault_in_test MemoryOfTest = None
+
+abbrev pub fault_behind_test : RunFault → Option InputFault
+fault_behind_test (BadLineOfRun line) = fault_at line BadRunLine
+fault_behind_test (WrongCountLine line want got) = fault_at line (WrongCount want got)
+fault_behind_test (ValueRangeLine line) = fault_at line ValueRange
+fault_behind_test (NoDoneLine line) = fault_at line NoDone
+fault_behind_test (AfterDoneLine line) = fault_at line AfterDone
+fault_behind_test MemoryOfRuns = None
+
+-- ---- a test and runs behind it
+
+-- The bytes are the text of a test, and behind it stands the text of these runs.
+pub record AreRecordedRuns (bytes : List ℕ) (p : Program) (runs : List (List ℕ)) : Type 0 where
+  pub test : StartsWithTest bytes p (runs_text runs)
+  pub each : AreRunsOf (load_count p) runs
+
+-- the text behind a test, the first line of which has this number
+abbrev pub text_behind : Program → ℕ → List ℕ → Reader
+text_behind p line rest = record { left = rest; line = line; loads = load_count p; is_done = false }
+
+-- lines are numbered through the whole input
+abbrev pub behind_test : Program → List ℕ → Reader
+behind_test p rest = text_behind p (length (test_lines p) + 1) rest
+
+-- No test stands in front, or what stands behind it isn't the text of runs. The refusal is that of the first bad line.
+pub data AreRefusedRecords (bytes : List ℕ) (fault : InputFault) : Type 0 where
+  in_test : (refusal : TestFault) → IsRefusedTest bytes refusal → fault_in_test refusal ≡ Some fault → AreRefusedRecords bytes fault
+  in_runs : (p : Program) (rest : List ℕ) (refusal : RunFault) → StartsWithTest bytes p rest → AreRefusedRuns (behind_test p rest) refusal → fault_behind_test refusal ≡ Some fault → AreRefusedRecords bytes fault
+
+-- ---- by command: of those that aren't built nothing is said
+
+abbrev pub RecordsBy : Command → List ℕ → Program → List (List ℕ) → Type 0
+RecordsBy Check bytes p runs = AreRecordedRuns bytes p runs
+RecordsBy command bytes p runs = ⊥
+
+abbrev pub RefusesBy : Command → List ℕ → InputFault → Type 0
+RefusesBy Check bytes fault = AreRefusedRecords bytes fault
+RefusesBy command bytes fault = ⊥
+
+-- By these settings the bytes mean this test and these recorded runs of it.
+abbrev pub IsRecorded : Settings → List ℕ → Program → List (List ℕ) → Type 0
+IsRecorded s bytes p runs = RecordsBy s.command bytes p runs
+
+-- By these settings the bytes mean this test and so many recorded runs of it. Drawn runs and races are counted before any is made.
+abbrev pub HasRunCount : Settings → List ℕ → Program → ℕ → Type 0
+HasRunCount s bytes p count = (runs : List (List ℕ)) × IsRecorded s bytes p runs × (count ≡ length runs)
+
+-- By these settings the bytes are refused.
+abbrev pub IsRefusedInput : Settings → List ℕ → InputFault → Type 0
+IsRefusedInput s bytes fault = RefusesBy s.command bytes fault
