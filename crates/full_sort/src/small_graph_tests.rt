@@ -88,40 +88,47 @@ fn list_of(
 /// Of five nodes, the edges from a node to itself.
 const LOOPS: u64 = 1 | 1 << 6 | 1 << 12 | 1 << 18 | 1 << 24;
 
+/// All tables of three nodes, by their numbers, and then drawn ones of four and of five.
+fn table_of(number: u64, drawn: u64) -> Table {
+    match number {
+        0..512 => Table {
+            nodes: 3,
+            bits: number,
+        },
+        512..768 => Table {
+            nodes: 4,
+            bits: (drawn >> 40) & (drawn >> 20),
+        },
+        _ => Table {
+            nodes: 5,
+            bits: (drawn >> 30) & (drawn >> 5) & !LOOPS,
+        },
+    }
+}
+
+/// How long the cycle is that both programs find, and none where they find two.
+fn same_cycle(alloc: Global, table: Table) -> Result<Option<usize>, AllocError> {
+    let wanted = table.first_cycle(alloc)?;
+    let graph = table.graph(alloc)?;
+    let cycle = canonical(alloc, &graph)?;
+    if cycle.list() == wanted.as_slice() {
+        Ok(Some(wanted.len()))
+    } else {
+        Ok(None)
+    }
+}
+
 #[test]
 fn the_first_cycle_by_the_rule(rt: HostRuntime) -> Result<(), Fail> {
-    let alloc = rt.alloc();
     let mut drawn = 1u64;
     let mut cyclic = 0u32;
     for number in 0..832u64 {
         drawn = drawn
             .wrapping_mul(6364136223846793005)
             .wrapping_add(1442695040888963407);
-        let table = match number {
-            0..512 => Table {
-                nodes: 3,
-                bits: number,
-            },
-            512..768 => Table {
-                nodes: 4,
-                bits: (drawn >> 40) & (drawn >> 20),
-            },
-            _ => Table {
-                nodes: 5,
-                bits: (drawn >> 30) & (drawn >> 5) & !LOOPS,
-            },
-        };
-        let wanted = table.first_cycle(alloc)?;
-        let graph = table.graph(alloc)?;
-        let cycle = canonical(alloc, &graph)?;
-        assert_eq!(rt;
-            cycle.list(),
-            wanted.as_slice(),
-            "{} nodes, edges {}",
-            table.nodes,
-            table.bits
-        );
-        if wanted.len() > 2 {
+        let length = same_cycle(rt.alloc(), table_of(number, drawn))?;
+        assert!(rt; length.is_some(), "table {number}");
+        if length.unwrap_or(0) > 2 {
             cyclic = cyclic.wrapping_add(1);
         }
     }
