@@ -1,5 +1,9 @@
 //! Directed graphs in arrays, lists of nodes and of edges, and sets of edges that a test tells.
 //! Nothing but a `with_room` takes memory.
+//!
+//! What is proved:
+//! `Graph`: the edges as they were added, one by one or a list at once, without those taken away; each call that gives an edge gives the last one before, and counts one step; how many edges lead from and to each node,
+//! and the targets of its first three. `Nodes`, `Edges`: lists of fixed room. `Pairs`: a set of edges told by a test, which also marks the sources of a node.
 #![tactic(auto)]
 
 mod at_hand;

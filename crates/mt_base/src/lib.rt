@@ -2,6 +2,10 @@
 //!
 //! A [`Source`] and a [`Sink`] count their faults. Code that is generic over them can't raise such a count, so a
 //! contract that ties an answer to a count that rose refuses a body that gives up by itself.
+//!
+//! What is proved:
+//! `Source` and `Sink` say what is left or held, where that is told, and count their faults: an answer `Failed` comes only where the count rose (or stands at its last value, 2^64 - 1).
+//! `MemSource`, `MemSink`: every answer and what is left are known exactly.
 #![tactic(auto)]
 
 mod calls;

@@ -16,7 +16,7 @@ use Rattle.signature_plan.specs.Outcomes.{outcome_of}
 use Rattle.verdict_report.specs.declared.report.Judged.{Judged}
 use Rattle.verdict_report.specs.declared.report.Judged.TheVariants.{Ok, Cycle}
 use Rattle.verdict_report.specs.declared.report.Work.{Work}
-use Rattle.verdict_report.specs.Lines.{head_lines, named, signatures, outsides, outside_line, signature_line, verdict_text, is_ok, is_cycle, sum_line, work_line, report_text_of, has_cycle, has_outside}
+use Rattle.verdict_report.specs.Lines.{head_lines, named, signatures, outsides, outside_line, signature_line, cycle_of, verdict_text, is_ok, is_cycle, sum_line, work_line, report_text_of, has_cycle, has_outside}
 use Rattle.verdict_report.specs.Numbers.{signature_text}
 use Rattle.mtrace_app.specs.Report.{AreJudged, IsJudged, IsReport, IsVerdict, work_alone}
 use Rattle.command_line.specs.declared.meaning.Command.{Command}
@@ -27,7 +27,7 @@ use Rattle.mtrace_app.proofs.ByCommand.{one_meaning_by}
 
 -- a report shows the same of both verdicts
 record LookSame (a b : Judged) : Type 0 where
-  text : verdict_text a ≡ verdict_text b
+  text : verdict_text (cycle_of a) ≡ verdict_text (cycle_of b)
   kind : is_ok a ≡ is_ok b
 
 abbrev AllLookSame : List Judged → List Judged → Type 0

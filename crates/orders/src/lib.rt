@@ -1,4 +1,7 @@
 //! Paths, orders and cycles of nodes under any set of edges: definitions that the crates above share, and their laws.
+//!
+//! What is proved:
+//! An order made of the least ready nodes is the least one; least orders and canonical cycles are one; stuck nodes have no order; few edges that reach as far as many have the same orders; nodes have an order or a cycle.
 #![tactic(auto)]
 
 ghost use Rattle.std.specs.Prelude.{◌≡◌, ◌≢◌, ◌↔◌, ◌⊎◌, ℕ, List, Bool, IsTrue, AllPairs};

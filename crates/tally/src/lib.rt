@@ -1,4 +1,8 @@
 //! Outcomes of runs, their order, and how often each occurred.
+//!
+//! What is proved:
+//! `Outcome` has a total order, in which only the same outcomes are equal. `Tally::add` (clause `tally`): the pairs are the tally of the outcomes that were added, each distinct one once, rising, with its count; a list has
+//! one tally. `Counter` (clauses `counted`): counting outcomes one after another and finishing gives their tally; a refusal leaves what was counted.
 #![tactic(auto)]
 
 mod batch;
