@@ -55,11 +55,11 @@ report_by model chunk p runs count chunks tally lent found text is_clean same ju
 -- ---- what `check` answers recorded runs
 
 module _ (s : Settings) (check : s.command ≡ Check) (bytes : List ℕ) where
-  as_recorded : (p : Program) (runs : List (List ℕ)) → AreRecordedRuns bytes p runs → RecordsBy s.command bytes p runs
-  as_recorded p runs h = subst (λ (c : Command). RecordsBy c bytes p runs) (sym check) h
+  as_recorded : (p : Program) (runs : List (List ℕ)) → AreRecordedRuns bytes p runs → RecordsBy s.command s bytes p runs
+  as_recorded p runs h = subst (λ (c : Command). RecordsBy c s bytes p runs) (sym check) h
 
   refuses : (refusal : Refusal) → ((fault : InputFault) × (refusal ≡ Input fault) × AreRefusedRuns bytes fault) → RefusesInput s bytes refusal
-  refuses refusal h = subst (RefusesInput s bytes) (sym h.1) (subst (λ (c : Command). RefusesBy c bytes h.0) (sym check) h.2)
+  refuses refusal h = subst (RefusesInput s bytes) (sym h.1) (subst (λ (c : Command). RefusesBy c s bytes h.0) (sym check) h.2)
 
   -- an input that wasn't read
   pub refuses_input : (failure : Failure) → IfRefused (λ refusal. (fault : InputFault) × (refusal ≡ Input fault) × AreRefusedRuns bytes fault) failure → IfRefused (RefusesInput s bytes) failure

@@ -90,7 +90,7 @@ module _ (s : Settings) (bytes : List ℕ) (source sink : Change) (status : Stat
 module _ (s : Settings) (bytes : List ℕ) where
   within_as : (p q : Program) (runs others : List (List ℕ)) → IsRecorded s bytes p runs → IsRecorded s bytes q others → FitLimits (length runs) (load_count p) → FitLimits (length others) (load_count q)
   within_as p q runs others h k within =
-      let same = one_meaning_by s.command bytes p q runs others h k in
+      let same = one_meaning_by s.command s bytes p q runs others h k in
       subst (λ (rs : List (List ℕ)). FitLimits (length rs) (load_count q)) same.1 (subst (λ (t : Program). FitLimits (length runs) (load_count t)) same.0 within)
 
   fit_as : (p q : Program) (runs : List (List ℕ)) (count : ℕ) → IsRecorded s bytes p runs → HasRunCount s bytes q count → FitLimits (length runs) (load_count p) → FitLimits count (load_count q)
@@ -110,8 +110,8 @@ module _ (s : Settings) (bytes : List ℕ) where
 
   not_unbuilt : (text : List ℕ) (is_clean : Bool) → IsOutputOf s bytes text is_clean → IsUnbuiltInput s bytes → ⊥
   not_unbuilt text is_clean h u =
-      let same = one_meaning_by s.command bytes u.test h.test u.runs h.runs u.recorded h.recorded in
-      let report = subst (λ (c : Command). OutputsBy c s h.test h.runs text is_clean) (records_check s.command bytes h.test h.runs h.recorded) h.output in
+      let same = one_meaning_by s.command s bytes u.test h.test u.runs h.runs u.recorded h.recorded in
+      let report = subst (λ (c : Command). OutputsBy c s h.test h.runs text is_clean) (records_check s.command s bytes h.test h.runs h.recorded) h.output in
       let counts =
       subst (λ (rs : List (List ℕ)). IsTally (map (outcome_of h.test) rs) u.tally) same.1
       (subst (λ (t : Program). IsTally (map (outcome_of t) u.runs) u.tally) same.0 u.counts) in
@@ -122,31 +122,31 @@ module _ (s : Settings) (bytes : List ℕ) where
   module _ (sink : Change) (status : Status) where
     due_refused : Says s bytes sink status → (fault : InputFault) → IsRefusedInput s bytes fault → EndsWith status InputStatus
     due_refused (for_input (Input other) h is) fault r = inl is
-    due_refused (for_input (TooLarge size) h is) fault r = absurd (not_both_by s.command bytes h.0 h.2.0 fault h.2.1 r)
-    due_refused (for_input NotBuilt h is) fault r = absurd (not_both_by s.command bytes h.test h.runs fault h.recorded r)
+    due_refused (for_input (TooLarge size) h is) fault r = absurd (not_both_by s.command s bytes h.0 h.2.0 fault h.2.1 r)
+    due_refused (for_input NotBuilt h is) fault r = absurd (not_both_by s.command s bytes h.test h.runs fault h.recorded r)
     due_refused (for_input Words h is) fault r = absurd h
     due_refused (for_input ReadFault h is) fault r = absurd h
-    due_refused (for_command c) fault r = absurd (c (refuses_check s.command bytes fault r))
-    due_refused (has_output text is_clean h is) fault r = absurd (not_both_by s.command bytes h.test h.runs fault h.recorded r)
+    due_refused (for_command c) fault r = absurd (c (refuses_check s.command s bytes fault r))
+    due_refused (has_output text is_clean h is) fault r = absurd (not_both_by s.command s bytes h.test h.runs fault h.recorded r)
     due_refused (had_no_memory is) fault r = inr is
 
     due_large : Says s bytes sink status → (p : Program) (count : ℕ) → HasRunCount s bytes p count → ¬ FitLimits count (load_count p) → EndsWith status TooLargeStatus
-    due_large (for_input (Input other) h is) p count k many = absurd (not_both_by s.command bytes p k.0 other k.1 h)
+    due_large (for_input (Input other) h is) p count k many = absurd (not_both_by s.command s bytes p k.0 other k.1 h)
     due_large (for_input (TooLarge size) h is) p count k many = inl is
     due_large (for_input NotBuilt h is) p count k many = absurd (many (fit_as h.test p h.runs count h.recorded k h.limits))
     due_large (for_input Words h is) p count k many = absurd h
     due_large (for_input ReadFault h is) p count k many = absurd h
-    due_large (for_command c) p count k many = absurd (c (records_check s.command bytes p k.0 k.1))
+    due_large (for_command c) p count k many = absurd (c (records_check s.command s bytes p k.0 k.1))
     due_large (has_output text is_clean h is) p count k many = absurd (many (fit_as h.test p h.runs count h.recorded k h.limits))
     due_large (had_no_memory is) p count k many = inr is
 
     due_unbuilt : Says s bytes sink status → IsUnbuiltInput s bytes → EndsWith status NotBuiltStatus
-    due_unbuilt (for_input (Input other) h is) u = absurd (not_both_by s.command bytes u.test u.runs other u.recorded h)
+    due_unbuilt (for_input (Input other) h is) u = absurd (not_both_by s.command s bytes u.test u.runs other u.recorded h)
     due_unbuilt (for_input (TooLarge size) h is) u = absurd (not_large size h u.test (length u.runs) (u.runs, u.recorded, refl) u.limits)
     due_unbuilt (for_input NotBuilt h is) u = inl is
     due_unbuilt (for_input Words h is) u = absurd h
     due_unbuilt (for_input ReadFault h is) u = absurd h
-    due_unbuilt (for_command c) u = absurd (c (records_check s.command bytes u.test u.runs u.recorded))
+    due_unbuilt (for_command c) u = absurd (c (records_check s.command s bytes u.test u.runs u.recorded))
     due_unbuilt (has_output text is_clean h is) u = absurd (not_unbuilt text is_clean h u)
     due_unbuilt (had_no_memory is) u = inr is
 
@@ -155,12 +155,12 @@ module _ (s : Settings) (bytes : List ℕ) where
     clean_or_found false is = inr (inl is)
 
     due_output : Says s bytes sink status → (p : Program) (count : ℕ) → HasRunCount s bytes p count → FitLimits count (load_count p) → ¬ IsUnbuiltInput s bytes → ¬ HadFault sink → (status ≡ Clean) ⊎ EndsWith status Found
-    due_output (for_input (Input other) h is) p count k fit built quiet = absurd (not_both_by s.command bytes p k.0 other k.1 h)
+    due_output (for_input (Input other) h is) p count k fit built quiet = absurd (not_both_by s.command s bytes p k.0 other k.1 h)
     due_output (for_input (TooLarge size) h is) p count k fit built quiet = absurd (not_large size h p count k fit)
     due_output (for_input NotBuilt h is) p count k fit built quiet = absurd (built h)
     due_output (for_input Words h is) p count k fit built quiet = absurd h
     due_output (for_input ReadFault h is) p count k fit built quiet = absurd h
-    due_output (for_command c) p count k fit built quiet = absurd (c (records_check s.command bytes p k.0 k.1))
+    due_output (for_command c) p count k fit built quiet = absurd (c (records_check s.command s bytes p k.0 k.1))
     due_output (has_output text is_clean h is) p count k fit built quiet = elim is [ inl e ↦ clean_or_found is_clean e | inr fault ↦ absurd (quiet fault) ]
     due_output (had_no_memory is) p count k fit built quiet = inr (inr is)
 

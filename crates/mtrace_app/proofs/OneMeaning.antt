@@ -8,7 +8,7 @@ use Rattle.test_lang.specs.Text.Grammar.{StartsWithTest, test_text}
 use Rattle.test_lang.specs.Text.Refusal.{IsRefused as IsRefusedTest}
 use Rattle.test_lang.proofs.TextLemmas.Readings.{means_reading}
 use Rattle.run_text.specs.declared.fault.RunFault.{RunFault}
-use Rattle.run_text.specs.Runs.{reading, runs_text, RunsMean}
+use Rattle.run_text.specs.Runs.{reading, RunsMean}
 use Rattle.run_text.proofs.Runs.{reading_is_meaning, reading_is_text}
 use Rattle.mtrace_app.specs.declared.refusal.InputFault.{InputFault}
 use Rattle.mtrace_app.specs.Inputs.{AreRecordedRuns, AreRefusedRuns, in_test, behind, behind_test, fault_in_test, fault_behind_test}

@@ -123,7 +123,7 @@ same_report model chunk p runs text other is_clean also h k =
 pub one_output : (s : Settings) (bytes text other : List ℕ) (is_clean also : Bool) → s.command ≡ Check → IsOutputOf s bytes text is_clean → IsOutputOf s bytes other also
     → (text ≡ other) × (is_clean ≡ also)
 one_output s bytes text other is_clean also check h k =
-    let same = one_meaning_by s.command bytes k.test h.test k.runs h.runs k.recorded h.recorded in
+    let same = one_meaning_by s.command s bytes k.test h.test k.runs h.runs k.recorded h.recorded in
     let there =
     subst (λ (rs : List (List ℕ)). OutputsBy s.command s h.test rs other also) same.1
     (subst (λ (q : Program). OutputsBy s.command s q k.runs other also) same.0 k.output) in

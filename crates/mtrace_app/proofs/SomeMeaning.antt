@@ -1,5 +1,5 @@
 -- A text means a test with runs behind it, or is refused.
-use Rattle.std.proofs.Common.{◌⊎◌, ℕ, List, Result, Ok, Err, refl, subst, inl, inr, arith}
+use Rattle.std.proofs.Common.{◌⊎◌, ℕ, List, Result, Ok, Err, refl, inl, inr, arith}
 use Rattle.test_lang.specs.Program.{Program}
 use Rattle.test_lang.specs.declared.text.fault.TestFault.{TestFault}
 use Rattle.test_lang.specs.declared.text.fault.TestFault.TheVariants.{BadHead, BadWords, BadLine, WordRange, TooManyThreads, TooManyOps, NoThread, NoEnd, Memory}
@@ -42,8 +42,8 @@ module _ (bytes : List ℕ) where
 
   by_test : (read : Result Program TestFault) → TextMeans bytes read → ((q : Program) × (runs : List (List ℕ)) × AreRecordedRuns bytes q runs) ⊎ ((fault : InputFault) × AreRefusedRuns bytes fault)
   by_test (Ok p) h =
-      let behind = behind_test p h.0 in
-      behind_a_test p h.0 (reading behind) h.1 ((reading_is_meaning behind (reading behind) refl).0 refl)
+      let reader = behind_test p h.0 in
+      behind_a_test p h.0 (reading reader) h.1 ((reading_is_meaning reader (reading reader) refl).0 refl)
   by_test (Err refusal) h = inr (named_in_test refusal h)
 
   pub some_meaning : ((p : Program) × (runs : List (List ℕ)) × AreRecordedRuns bytes p runs) ⊎ ((fault : InputFault) × AreRefusedRuns bytes fault)

@@ -26,7 +26,7 @@ answer_line (Made output) = []
 answer_line (Refused refusal line) = cow_str_bytes line
 answer_line NoMemory = message (codes "memory")
 
--- The answer tells this refusal, unless memory was refused for its line: one that takes none doesn't fail so.
+-- The answer tells this refusal, unless memory was refused for its line. That of an input of too many bytes takes none.
 abbrev pub TellsRefusal : Refusal → Answer → Type 0
 TellsRefusal refusal (Made output) = ⊥
 TellsRefusal refusal (Refused told line) = (told ≡ refusal) × (cow_str_bytes line ≡ message (refusal_text refusal))

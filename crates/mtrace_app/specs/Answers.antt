@@ -72,7 +72,7 @@ IsDueByWords words Words = HasNoSettings words
 IsDueByWords words NotBuilt = (s : Settings) × HasSettings words s × IsUnbuiltCommand s
 IsDueByWords words refusal = ⊥
 
--- The status of a call, by the bytes that it took: no more than an input may have, and without a fault.
+-- The status of a call, by the bytes of its input: no more than an input may have, and taken without a fault.
 pub record IsDue (s : Settings) (bytes : List ℕ) (sink : Change) (status : Status) : Type 0 where
   -- bytes that are refused
   pub refused : (fault : InputFault) → IsRefusedInput s bytes fault → EndsWith status InputStatus

@@ -12,7 +12,7 @@ use Rattle.run_text.specs.Reader.{Reader}
 use Rattle.run_text.specs.Items.{IsTextOf, IsRefusedText}
 use Rattle.run_text.specs.Runs.{IsLineOfRun, IsBadForRuns}
 use Rattle.command_line.specs.declared.meaning.Command.{Command}
-use Rattle.command_line.specs.declared.meaning.Command.TheVariants.{Check, Generate, Demo}
+use Rattle.command_line.specs.declared.meaning.Command.TheVariants.{Check, Replay, Run, Race, Generate, Demo}
 use Rattle.command_line.specs.declared.meaning.Settings.{Settings}
 use Rattle.mtrace_app.specs.declared.refusal.InputFault.{InputFault}
 use Rattle.mtrace_app.specs.declared.refusal.Reason.{Reason}
@@ -20,9 +20,12 @@ use Rattle.mtrace_app.specs.declared.refusal.Reason.TheVariants.{BadHead, BadWor
 
 -- whether a command takes bytes
 abbrev pub reads : Command → Bool
+reads Check = true
+reads Replay = true
+reads Run = true
+reads Race = true
 reads Generate = false
 reads Demo = false
-reads command = true
 
 -- ---- the refusals of the texts, as those of an input
 
@@ -57,9 +60,9 @@ pub record IsRecordedText {Item : Type 0} (IsLineOf : Program → Item → List 
   pub text : IsTextOf (IsLineOf p) items rest []
 
 -- No test stands in front, or the text of items behind it is refused. The refusal is that of the first bad line; lines are numbered through the whole input.
-pub data IsRefusedRecord {Item Fault : Type 0} (IsLineOf : Program → Item → List ℕ → Type 0) (IsBad : Program → ℕ → List ℕ → Fault → Type 0) (name : Fault → Option InputFault) (bytes : List ℕ) (fault : InputFault) : Type 0 where
-  in_test : (refusal : TestFault) → IsRefusedTest bytes refusal → fault_in_test refusal ≡ Some fault → IsRefusedRecord IsLineOf IsBad name bytes fault
-  behind : (p : Program) (rest : List ℕ) (refusal : Fault) → StartsWithTest bytes p rest → IsRefusedText (IsLineOf p) (IsBad p) (length (test_lines p) + 1) rest refusal → name refusal ≡ Some fault → IsRefusedRecord IsLineOf IsBad name bytes fault
+pub data IsRefusedRecordedText {Item Fault : Type 0} (IsLineOf : Program → Item → List ℕ → Type 0) (IsBad : Program → ℕ → List ℕ → Fault → Type 0) (name : Fault → Option InputFault) (bytes : List ℕ) (fault : InputFault) : Type 0 where
+  in_test : (refusal : TestFault) → IsRefusedTest bytes refusal → fault_in_test refusal ≡ Some fault → IsRefusedRecordedText IsLineOf IsBad name bytes fault
+  behind : (p : Program) (rest : List ℕ) (refusal : Fault) → StartsWithTest bytes p rest → IsRefusedText (IsLineOf p) (IsBad p) (length (test_lines p) + 1) rest refusal → name refusal ≡ Some fault → IsRefusedRecordedText IsLineOf IsBad name bytes fault
 
 -- ---- the items are runs
 
@@ -67,7 +70,7 @@ abbrev pub AreRecordedRuns : List ℕ → Program → List (List ℕ) → Type 0
 AreRecordedRuns = IsRecordedText (λ p. IsLineOfRun (load_count p))
 
 abbrev pub AreRefusedRuns : List ℕ → InputFault → Type 0
-AreRefusedRuns = IsRefusedRecord (λ p. IsLineOfRun (load_count p)) (λ p. IsBadForRuns (load_count p)) fault_behind_test
+AreRefusedRuns = IsRefusedRecordedText (λ p. IsLineOfRun (load_count p)) (λ p. IsBadForRuns (load_count p)) fault_behind_test
 
 -- the reader of the text behind a test, the first line of which has this number
 abbrev pub text_behind : Program → ℕ → List ℕ → Reader
@@ -76,24 +79,24 @@ text_behind p line rest = record { left = rest; line = line; loads = load_count 
 abbrev pub behind_test : Program → List ℕ → Reader
 behind_test p rest = text_behind p (length (test_lines p) + 1) rest
 
--- ---- by command: of those that aren't built nothing is said
+-- ---- by command: one that isn't built has no recorded runs and refuses no bytes
 
-abbrev pub RecordsBy : Command → List ℕ → Program → List (List ℕ) → Type 0
-RecordsBy Check bytes p runs = AreRecordedRuns bytes p runs
-RecordsBy command bytes p runs = ⊥
+abbrev pub RecordsBy : Command → Settings → List ℕ → Program → List (List ℕ) → Type 0
+RecordsBy Check s bytes p runs = AreRecordedRuns bytes p runs
+RecordsBy command s bytes p runs = ⊥
 
-abbrev pub RefusesBy : Command → List ℕ → InputFault → Type 0
-RefusesBy Check bytes fault = AreRefusedRuns bytes fault
-RefusesBy command bytes fault = ⊥
+abbrev pub RefusesBy : Command → Settings → List ℕ → InputFault → Type 0
+RefusesBy Check s bytes fault = AreRefusedRuns bytes fault
+RefusesBy command s bytes fault = ⊥
 
 -- By these settings the bytes mean this test and these recorded runs of it.
 abbrev pub IsRecorded : Settings → List ℕ → Program → List (List ℕ) → Type 0
-IsRecorded s bytes p runs = RecordsBy s.command bytes p runs
+IsRecorded s bytes p runs = RecordsBy s.command s bytes p runs
 
--- By these settings the bytes mean this test and so many recorded runs of it. Drawn runs and races are counted before any is made.
+-- By these settings the bytes mean this test and so many recorded runs of it.
 abbrev pub HasRunCount : Settings → List ℕ → Program → ℕ → Type 0
 HasRunCount s bytes p count = (runs : List (List ℕ)) × IsRecorded s bytes p runs × (count ≡ length runs)
 
 -- By these settings the bytes are refused.
 abbrev pub IsRefusedInput : Settings → List ℕ → InputFault → Type 0
-IsRefusedInput s bytes fault = RefusesBy s.command bytes fault
+IsRefusedInput s bytes fault = RefusesBy s.command s bytes fault

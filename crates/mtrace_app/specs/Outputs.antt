@@ -15,7 +15,7 @@ use Rattle.mtrace_app.specs.Limits.{FitLimits}
 use Rattle.mtrace_app.specs.Outside.{Change, IsWithinLimit, WhereTold}
 use Rattle.mtrace_app.specs.Report.{IsReport}
 
--- ---- by command: of those that aren't built nothing is said
+-- ---- by command: one that isn't built has no output
 
 abbrev pub OutputsBy : Command → Settings → Program → List (List ℕ) → List ℕ → Bool → Type 0
 OutputsBy Check s p runs text is_clean = IsReport s.model s.chunk p runs text is_clean

@@ -13,7 +13,7 @@ pub record Change : Type 0 where
 abbrev pub change : Option (List ℕ) → Option (List ℕ) → ℕ → ℕ → Change
 change before now faults_before faults = record { before = before; now = now; faults_before = faults_before; faults = faults }
 
--- a take or a put of it failed
+-- its count of faults rose
 abbrev pub HadFault : Change → Type 0
 HadFault c = Rose c.faults_before c.faults
 

@@ -26,7 +26,7 @@ reason_text ValueRange = codes "ValueRange"
 reason_text NoDone = codes "NoDone"
 reason_text AfterDone = codes "AfterDone"
 
--- which limit is passed, and by how many
+-- which limit is passed, and how many there are
 abbrev pub size_text : Size → List ℕ
 size_text Bytes = codes "bytes"
 size_text (Runs count) = codes "runs " ++ decimal count

@@ -1,5 +1,5 @@
 //! The limits on the runs of a test.
-ghost use Rattle.std.specs.Prelude.{◌≡◌, ◌^◌, ◌<◌, ◌≤◌, IsTrue, ◌↔◌, OnOk, IfErr};
+ghost use Rattle.std.specs.Prelude.{◌^◌, ◌<◌, ◌≤◌, IsTrue, ◌↔◌, OnOk, IfErr};
 ghost use Rattle.mtrace_app.specs.Limits.{FitLimits, PassLimit};
 
 use crate::refusal::Size;

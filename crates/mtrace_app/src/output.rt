@@ -1,6 +1,5 @@
 //! What a command writes, by the words and by what the source gives.
-ghost use Rattle.std.specs.Prelude.{◌≡◌, ◌⊎◌, ◌≤◌, Err, IfOk, IfErr, IsErrOf};
-ghost use Rattle.command_line.specs.Settings.{HasNoSettings, HasSettings};
+ghost use Rattle.std.specs.Prelude.{◌≡◌, ◌⊎◌, ◌≤◌, Err, IfOk, IfErr};
 ghost use Rattle.mtrace_app.specs.declared.refusal.Refusal.{Refusal};
 ghost use Rattle.mtrace_app.specs.declared.failure.Failure.TheVariants.{Memory, Refused};
 ghost use Rattle.mtrace_app.specs.Answers.{HasCause, HasOutput, IsCause, IsDueByWords, texts};

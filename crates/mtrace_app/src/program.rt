@@ -1,5 +1,5 @@
 //! The call that does all that the program does.
-ghost use Rattle.std.specs.Prelude.{◌≡◌, ◌≢◌, ◌⊎◌, ◌≤◌, ◌^◌, ℕ, List, length, IfSome, codes};
+ghost use Rattle.std.specs.Prelude.{◌≡◌, ◌≢◌, ◌≤◌, ◌^◌, ℕ, List, length, IfSome, codes};
 ghost use Rattle.std.specs.Io.KnownBytes.{Keeps};
 ghost use Rattle.mt_base.specs.Faults.{Rose};
 ghost use Rattle.command_line.specs.declared.meaning.Settings.{Settings};
@@ -21,7 +21,7 @@ use std::thread::Threads;
 
 /// Answers the words, which stand behind the program's name. A status from 2 on is told by a line to `errs`.
 ///
-/// With settings it reads the source to its end: a test, and recorded runs of it. The whole report is made before it is put to the sink, and
+/// `check` reads the source to its end: a test, and recorded runs of it. The whole report is made before it is put to the sink, and
 /// each put offers all that is left of it. Of the commands only `check` is built.
 pub fn mtrace<S: Source, K: Sink, E: Sink, G: Gate + Sync>(
     rt: &(impl Threads + Sync),
@@ -51,7 +51,7 @@ pub fn mtrace<S: Source, K: Sink, E: Sink, G: Gate + Sync>(
         → IsDue s bytes (change (K.held sink.old) (K.held sink.new) (K.faults sink.old) (K.faults sink.new)) result) }
     ensures too_large { WhereTold (S.left source.old) (S.left source.new) (λ before now. IsPastLimit before now → result ≡ Status.TooLarge) }
 
-    // No more is taken than is asked for, and no count of faults falls.
+    // No more is taken than the limit and a block of 2^16 bytes, and no count of faults falls.
     ensures rest { IsRestOf (S.left source.old) (S.left source.new) }
     ensures source_later { S.faults source.old ≤ S.faults source.new }
     ensures sink_later { K.faults sink.old ≤ K.faults sink.new }

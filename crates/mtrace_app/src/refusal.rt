@@ -71,7 +71,7 @@ pub struct InputFault {
     pub reason: Reason,
 }
 
-/// Which limit is passed, and by what.
+/// Which limit is passed, and how many there are.
 #[derive(Clone, Copy, Debug, PartialEq, Eq, Drop)]
 pub enum Size {
     /// The bytes of an input.
@@ -156,7 +156,7 @@ impl Refusal {
         }
     }
 
-    /// The line for the errors. One that names no number takes no memory, of which the error is want.
+    /// The line for the errors. The error is want of memory; one that names no number takes none.
     pub fn line(&self, alloc: Global) -> Result<CowStr<'static>, AllocError>
         ensures text { IfOk result (λ line. cow_str_bytes line ≡ message (refusal_text self.now)) }
         ensures fixed { self.now ≡ Refusal.TooLarge Size.Bytes → IsOk result }
