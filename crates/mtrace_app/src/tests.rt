@@ -31,13 +31,13 @@ const STORE_THEN_LOAD_OF_ONE_WORD: &str =
 
 /// How a source or a sink behaves: how many bytes a sink has room for, how many a call moves at most, and which calls fail.
 #[derive(Clone, Copy)]
-struct Manner<'a> {
+struct Manner {
     room: usize,
     most: usize,
-    fails: &'a [u32],
+    fails: &'static [u32],
 }
 
-const FREE: Manner<'static> = Manner {
+const FREE: Manner = Manner {
     room: 100_000,
     most: 65_536,
     fails: &[],
@@ -46,11 +46,11 @@ const FREE: Manner<'static> = Manner {
 /// How a call is made: the words, with a space between two, the input, and how the source, the sink and the errors behave.
 #[derive(Clone, Copy)]
 struct Call<'a> {
-    words: &'a str,
+    words: &'static str,
     input: &'a str,
-    takes: Manner<'a>,
-    puts: Manner<'a>,
-    tells: Manner<'a>,
+    takes: Manner,
+    puts: Manner,
+    tells: Manner,
 }
 
 const CHECK: Call<'static> = Call {
@@ -79,7 +79,7 @@ fn words_of(alloc: Global, text: &str) -> Result<Vec<String>, AllocError> {
     Ok(words)
 }
 
-fn sink_of(alloc: Global, manner: &Manner<'_>) -> Result<MemSink, AllocError> {
+fn sink_of(alloc: Global, manner: &Manner) -> Result<MemSink, AllocError> {
     MemSink::with_room(
         alloc,
         manner.room,
@@ -361,6 +361,45 @@ const ROWS: [Row<'static>; 19] = [
     },
 ];
 
+/// The words that ask for a check under a model.
+fn words_for(model: &str) -> &'static str {
+    match model {
+        "sc" => "check --chunk 1",
+        "tso" => "check --chunk=1 --model=tso",
+        _ => "check --model weak --chunk 1",
+    }
+}
+
+/// Whether a row holds under a model, with so many bytes for each take and for each put.
+fn holds_by(
+    rt: &(impl Threads + Sync),
+    alloc: Global,
+    row: &Row<'_>,
+    model: &str,
+    sizes: (usize, usize),
+) -> Result<bool, AllocError> {
+    let [_, cycle, outside] = row.sums;
+    let status = if cycle == 0 && outside == 0 {
+        Status::Clean
+    } else {
+        Status::Found
+    };
+    let (takes, puts) = sizes;
+    let input = joined(alloc, row.test, row.runs, 1, "")?;
+    let output = report(alloc, model, row.count, row.lines, row.sums)?;
+    let call = Call {
+        words: words_for(model),
+        input: input.as_str(),
+        takes: Manner {
+            most: takes,
+            ..FREE
+        },
+        puts: Manner { most: puts, ..FREE },
+        tells: FREE,
+    };
+    leaves(rt, alloc, &call, status, output.as_str(), "")
+}
+
 /// Whether a row holds under a model: with free sources and sinks, and with one byte for each take and three for each put.
 fn holds_under(
     rt: &(impl Threads + Sync),
@@ -368,32 +407,9 @@ fn holds_under(
     row: &Row<'_>,
     model: &str,
 ) -> Result<bool, AllocError> {
-    let words = match model {
-        "sc" => "check --chunk 1",
-        "tso" => "check --chunk=1 --model=tso",
-        _ => "check --model weak --chunk 1",
-    };
-    let [_, cycle, outside] = row.sums;
-    let status = if cycle == 0 && outside == 0 {
-        Status::Clean
-    } else {
-        Status::Found
-    };
-    let input = joined(alloc, row.test, row.runs, 1, "")?;
-    let output = report(alloc, model, row.count, row.lines, row.sums)?;
-    let call = Call {
-        words,
-        input: input.as_str(),
-        ..CHECK
-    };
-    let slow = Call {
-        takes: Manner { most: 1, ..FREE },
-        puts: Manner { most: 3, ..FREE },
-        ..call
-    };
     Ok(
-        leaves(rt, alloc, &call, status, output.as_str(), "")?
-            && leaves(rt, alloc, &slow, status, output.as_str(), "")?,
+        holds_by(rt, alloc, row, model, (65_536, 65_536))?
+            && holds_by(rt, alloc, row, model, (1, 3))?,
     )
 }
 
@@ -694,7 +710,7 @@ fn takes_fail(
     alloc: Global,
     runs: u32,
     most: usize,
-    fails: &[u32],
+    fails: &'static [u32],
 ) -> Result<bool, AllocError> {
     let input = joined(alloc, STORE_BUFFERING, "run 0 0\n", runs, "done\n")?;
     let takes = Manner {
@@ -758,7 +774,7 @@ const FAILING_PUTS: [(usize, usize, &[u32], usize); 5] = [
 fn puts_fail(
     rt: &(impl Threads + Sync),
     alloc: Global,
-    puts: Manner<'_>,
+    puts: Manner,
     written: usize,
 ) -> Result<bool, AllocError> {
     let output = both_zero(alloc, 1)?;
