@@ -13,10 +13,23 @@ use Rattle.run_text.proofs.Runs.{reading_is_meaning, reading_is_text}
 use Rattle.mtrace_app.specs.declared.refusal.InputFault.{InputFault}
 use Rattle.mtrace_app.specs.Inputs.{AreRecordedRuns, AreRefusedRuns, in_test, behind, behind_test, fault_in_test, fault_behind_test}
 
+-- two results that are the same hold the same, and no result is both
+ok_one : {A B : Type 0} (x y : A) → ◌≡◌ {A = Result A B} (Ok x) (Ok y) → x ≡ y
+ok_one x y e = cc
+
+err_one : {A B : Type 0} (x y : B) → ◌≡◌ {A = Result A B} (Err x) (Err y) → x ≡ y
+err_one x y e = cc
+
+not_both_ends : {A B : Type 0} (x : A) (y : B) → ◌≡◌ {A = Result A B} (Ok x) (Err y) → ⊥
+not_both_ends x y e = cc
+
+some_one : {A : Type 0} (x y : A) → Some x ≡ Some y → x ≡ y
+some_one x y e = cc
+
 module _ (bytes : List ℕ) where
   pub same_test : (p q : Program) (rest others : List ℕ) → StartsWithTest bytes p rest → StartsWithTest bytes q others → p ≡ q
   same_test p q rest others a b =
-      let same = sym (means_reading bytes (Ok p) (rest, a)) ∙ means_reading bytes (Ok q) (others, b) in cc
+      ok_one p q (sym (means_reading bytes (Ok p) (rest, a)) ∙ means_reading bytes (Ok q) (others, b))
 
   pub same_rest : (p q : Program) (rest others : List ℕ) → StartsWithTest bytes p rest → StartsWithTest bytes q others → rest ≡ others
   same_rest p q rest others a b =
@@ -38,25 +51,23 @@ module _ (bytes : List ℕ) where
   pub one_meaning : (p q : Program) (runs others : List (List ℕ)) → AreRecordedRuns bytes p runs → AreRecordedRuns bytes q others → (p ≡ q) × (runs ≡ others)
   one_meaning p q runs others a b =
       let read = same_reading p q a.rest b.rest (Ok runs) (Ok others) a.test b.test (runs_mean p runs a) (runs_mean q others b) in
-      (same_test p q a.rest b.rest a.test b.test, (let e : runs ≡ others = cc in e))
+      (same_test p q a.rest b.rest a.test b.test, ok_one runs others read)
 
   not_a_test : (p : Program) (rest : List ℕ) (refusal : TestFault) → StartsWithTest bytes p rest → IsRefusedTest bytes refusal → ⊥
   not_a_test p rest refusal starts refused =
-      let same = sym (means_reading bytes (Ok p) (rest, starts)) ∙ means_reading bytes (Err refusal) refused in cc
+      not_both_ends p refusal (sym (means_reading bytes (Ok p) (rest, starts)) ∙ means_reading bytes (Err refusal) refused)
 
   pub not_both : (p : Program) (runs : List (List ℕ)) (fault : InputFault) → AreRecordedRuns bytes p runs → AreRefusedRuns bytes fault → ⊥
   not_both p runs fault a (in_test refusal refused named) = not_a_test p a.rest refusal a.test refused
   not_both p runs fault a (behind q rest refusal starts refused named) =
-      let read = same_reading p q a.rest rest (Ok runs) (Err refusal) a.test starts (runs_mean p runs a) refused in cc
+      not_both_ends runs refusal (same_reading p q a.rest rest (Ok runs) (Err refusal) a.test starts (runs_mean p runs a) refused)
 
   pub one_refusal : (fault other : InputFault) → AreRefusedRuns bytes fault → AreRefusedRuns bytes other → fault ≡ other
   one_refusal fault other (in_test r h named) (in_test t k also) =
-      let same = sym (means_reading bytes (Err r) h) ∙ means_reading bytes (Err t) k in
-      let e : r ≡ t = cc in
-      let same_name : Some fault ≡ Some other = sym named ∙ ap fault_in_test e ∙ also in cc
+      let same = err_one r t (sym (means_reading bytes (Err r) h) ∙ means_reading bytes (Err t) k) in
+      some_one fault other (sym named ∙ ap fault_in_test same ∙ also)
   one_refusal fault other (in_test r h named) (behind q rest t starts k also) = absurd (not_a_test q rest r starts h)
   one_refusal fault other (behind p rest r starts h named) (in_test t k also) = absurd (not_a_test p rest t starts k)
   one_refusal fault other (behind p rest r starts h named) (behind q others t also_starts k also) =
-      let read = same_reading p q rest others (Err r) (Err t) starts also_starts h k in
-      let e : r ≡ t = cc in
-      let same_name : Some fault ≡ Some other = sym named ∙ ap fault_behind_test e ∙ also in cc
+      let same = err_one r t (same_reading p q rest others (Err r) (Err t) starts also_starts h k) in
+      some_one fault other (sym named ∙ ap fault_behind_test same ∙ also)

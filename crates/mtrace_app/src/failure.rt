@@ -10,7 +10,7 @@ use std::alloc::AllocError;
 use test_lang::text::fault::TestFault;
 
 /// There is no output, or memory was refused.
-#[derive(Clone, Copy, Debug, Drop)]
+#[derive(Clone, Copy, Drop)]
 pub(crate) enum Failure {
     Refused(Refusal),
     Memory,

@@ -8,7 +8,7 @@ ghost use Rattle.orders.specs.Orders.{HasNoOrder, nodes_below};
 ghost use Rattle.digraph.specs.Digraph.{HasEdge};
 ghost use Rattle.graph_model.specs.RunVerdicts.{StandsForRun};
 ghost use Rattle.graph_model.specs.StaticGraph.{run_edge_room};
-ghost use Rattle.mtrace_app.specs.Judging.{IsJudge};
+ghost use Rattle.mtrace_app.specs.Judging.{HasRoom, IsJudge};
 ghost use Rattle.mtrace_app.specs.Report.{IsJudged};
 
 use digraph::{Graph, Nodes, Steps};
@@ -95,6 +95,51 @@ fn copy_of(alloc: Global, nodes: &[u32]) -> Result<Nodes, AllocError>
     Ok(copy)
 }
 
+/// What the order, the edges and the values of a run are written into.
+#[derive(Drop)]
+struct Lists {
+    edges: Vec<(u32, u32)>,
+    order: Vec<u32>,
+    run: Vec<u32>,
+}
+
+impl Lists {
+    fn for_runs(alloc: Global, edges: u32, nodes: u32, loads: u32) -> Result<Lists, AllocError>
+        ensures edges { IfOk result (λ lists. length lists.edges.items ≡ edges) }
+        ensures order { IfOk result (λ lists. length lists.order.items ≡ nodes) }
+        ensures run { IfOk result (λ lists. length lists.run.items ≡ loads) }
+    {
+        Ok(Lists {
+            edges: vec![in alloc; (0u32, 0u32); edges as usize]?,
+            order: vec![in alloc; 0u32; nodes as usize]?,
+            run: vec![in alloc; 0u32; loads as usize]?,
+        })
+    }
+}
+
+/// What verdicts on the runs of a test are worked out in.
+#[derive(Drop)]
+struct Bench {
+    lists: Lists,
+    cycle: Nodes,
+    scratch: Scratch,
+    graph: Graph,
+}
+
+impl Bench {
+    fn for_runs(alloc: Global, fixed: &Static) -> Result<Bench, AllocError>
+        ensures { IfOk result (λ bench. HasRoom fixed.now bench.graph bench.lists.edges.items bench.scratch bench.lists.order.items bench.lists.run.items bench.cycle) }
+    {
+        let nodes = fixed.graph().nodes();
+        Ok(Bench {
+            lists: Lists::for_runs(alloc, fixed.run_edge_room(), nodes, fixed.loads())?,
+            cycle: Nodes::with_room(alloc, nodes)?,
+            scratch: Scratch::new(alloc, nodes)?,
+            graph: fixed.graph_for_runs(alloc)?,
+        })
+    }
+}
+
 /// The verdicts on the runs of a test under a model, one after another. What they are worked out in is made once.
 #[derive(Drop)]
 pub(crate) struct Judge {
@@ -115,15 +160,21 @@ impl Judge {
         ensures room { IfOk result IsJudge }
     {
         let fixed = Static::of(alloc, test, model)?;
-        let nodes = fixed.graph().nodes();
+        let Bench {
+            lists,
+            cycle,
+            scratch,
+            graph,
+        } = Bench::for_runs(alloc, &fixed)?;
+        let Lists { edges, order, run } = lists;
         Ok(Judge {
-            graph: fixed.graph_for_runs(alloc)?,
-            edges: vec![in alloc; (0u32, 0u32); fixed.run_edge_room() as usize]?,
-            scratch: Scratch::new(alloc, nodes)?,
-            order: vec![in alloc; 0u32; nodes as usize]?,
-            run: vec![in alloc; 0u32; fixed.loads() as usize]?,
-            cycle: Nodes::with_room(alloc, nodes)?,
             fixed,
+            graph,
+            edges,
+            scratch,
+            order,
+            run,
+            cycle,
         })
     }
 

@@ -15,7 +15,7 @@ const MAX_BYTES: usize = 1 << 30;
 const BLOCK: usize = 1 << 16;
 
 /// Why a source wasn't read to its end.
-#[derive(Clone, Copy, Debug)]
+#[derive(Clone, Copy)]
 pub(crate) enum ReadError {
     /// A take failed.
     Fault,

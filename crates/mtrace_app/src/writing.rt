@@ -7,7 +7,7 @@ ghost use Rattle.mtrace_app.specs.Outside.{AppendsFront};
 use mt_base::{Put, Sink};
 
 /// A put failed.
-#[derive(Clone, Copy, Debug)]
+#[derive(Clone, Copy)]
 pub(crate) struct WriteError;
 
 /// Puts all of the bytes. Each put offers all that is left of them. It stops at the first put that fails.
