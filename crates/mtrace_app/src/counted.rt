@@ -47,19 +47,20 @@ fn count_signatures(tally: &Tally) -> usize
     count
 }
 
-/// The verdict on each signature, in their order.
+/// The verdict on each signature, in their order. There is room for so many.
 fn judge_all(
     alloc: Global,
     judge: &mut Judge,
     plan: &Plan,
     tally: &Tally,
+    room: usize,
 ) -> Result<Vec<Judged>, AllocError>
     requires room { IsJudge judge.old }
     requires plan { plan.now ≡ judge.old.fixed.test }
     requires meant { AreMeant judge.old.fixed.test (signatures tally.now) }
     ensures { IfOk result (λ found. AreJudged judge.old.fixed.model judge.old.fixed.test (signatures tally.now) found.items) }
 {
-    let mut found = Vec::with_capacity(alloc, count_signatures(tally))?;
+    let mut found = Vec::with_capacity(alloc, room)?;
     for (outcome, _) in tally.iter() {
         if let Outcome::Inside(signature) = outcome {
             found.push(judge.verdict(alloc, plan, signature.words())?)?;
@@ -68,18 +69,19 @@ fn judge_all(
     Ok(found)
 }
 
-/// The verdict on each signature of counted runs, in their order.
+/// The verdict on each signature of counted runs, in their order. There is room for so many.
 fn verdicts_on(
     alloc: Global,
     model: MemModel,
     counted: &Counted<'_>,
+    room: usize,
 ) -> Result<Vec<Judged>, AllocError>
     requires plan { counted.now.plan.now ≡ counted.now.test.now }
     requires meant { AreMeant counted.now.test.now (signatures counted.now.tally.now) }
     ensures { IfOk result (λ found. AreJudged model counted.now.test.now (signatures counted.now.tally.now) found.items) }
 {
     let mut judge = Judge::new(alloc, counted.test, model)?;
-    judge_all(alloc, &mut judge, counted.plan, counted.tally)
+    judge_all(alloc, &mut judge, counted.plan, counted.tally, room)
 }
 
 /// Whether a chunk of this size may have more than one of so many signatures.
@@ -103,10 +105,11 @@ pub(crate) fn report_of(
         → IsReport model chunk counted.now.test.now runs output.text.items output.is_clean) }
     ensures unbuilt { IfErr result (IfRefused (λ refusal. (refusal ≡ Refusal.NotBuilt) × (chunk ≢ 1) × (2 ≤ length (signatures counted.now.tally.now)))) }
 {
-    if shares_chunks(chunk, count_signatures(counted.tally)) {
+    let signatures = count_signatures(counted.tally);
+    if shares_chunks(chunk, signatures) {
         return Err(Failure::Refused(Refusal::NotBuilt));
     }
-    let found = verdicts_on(alloc, model, counted)?;
+    let found = verdicts_on(alloc, model, counted, signatures)?;
     Ok(write_report(alloc, model, counted, &found)?)
 }
 

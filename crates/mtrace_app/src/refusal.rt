@@ -156,7 +156,7 @@ impl Refusal {
         }
     }
 
-    /// The line for the errors. The error is want of memory; one that names no number takes none.
+    /// The line for the errors. The error is want of memory; that of an input of too many bytes takes none.
     pub fn line(&self, alloc: Global) -> Result<CowStr<'static>, AllocError>
         ensures text { IfOk result (λ line. cow_str_bytes line ≡ message (refusal_text self.now)) }
         ensures fixed { self.now ≡ Refusal.TooLarge Size.Bytes → IsOk result }
