@@ -9,8 +9,7 @@ use Rattle.test_lang.specs.declared.op.Op.{Op}
 use Rattle.test_lang.specs.declared.op.Op.TheVariants.{Load, Store, Fence}
 use Rattle.test_lang.specs.Program.{Program, nodes, op_count, passes}
 use Rattle.test_lang.specs.Values.{is_load, is_store, is_store_to, is_load_at, is_store_at, load_count, load_nodes, store_count, value_of}
-use Rattle.test_lang.specs.Runs.{own_earlier, base, others, candidates}
-use Rattle.test_lang.proofs.CandidateKinds.{last_below}
+use Rattle.test_lang.specs.Runs.{base, others, candidates}
 use Rattle.test_lang.proofs.Places.{length-places_all, passing, passing-lt, place_at, places}
 use Rattle.test_lang.proofs.Ranks.{length-load_nodes, load_nodes-is_load, one_store, value_of-le}
 use Rattle.candidates.specs.ByRank.{candidates_at, load_at}
@@ -93,7 +92,7 @@ count_at-le p rank lt = candidate_count-le p (load_at p rank) (rank_is_load p ra
 
 -- a candidate is 0 or the value of a store
 pub candidate_le : (p : Program) (load i value : ℕ) → is_load_at p load ≡ true → slice_get (candidates p load) i ≡ Some value → value ≤ store_count p
-candidate_le p load zero value h e = let few = base_le p load (last_below (own_earlier p load) (value_of p) (op_count p)) in let same = same_Some (base p load) value e in omega (arith, few, same)
+candidate_le p load zero value h e = let few = base_le p load in let same = same_Some (base p load) value e in omega (arith, few, same)
 candidate_le p load (suc i) value h e =
     let l = load_at_node p load h in
     let other = other_at p load l.thread l.word i value l.node e in

@@ -1,7 +1,8 @@
 -- The candidates of a load, by the list of the stores to its word.
 use Rattle.std.proofs.Common.{◌≡◌, ◌∙◌, ℕ, zero, suc, ◌+◌, ◌-◌, ◌<◌, ◌≤◌, List, [], ◌∷◌, ◌++◌, Bool, true, false, not, ◌&&◌, cond, map, take, drop, length, Option, None, Some, refl, ap, arith, sym, append-nil, length-append, length-drop}
 use Rattle.std.specs.Prelude.{◌==◌, filter, nat_lt, slice_get}
-use Rattle.std.specs.Option.{option_map}
+use Rattle.std.specs.List.{last_or}
+use Rattle.std.specs.Option.{option_map, option_map_or}
 use Rattle.std.proofs.lemmas.Bool.{eq-eqb, ne_eqb, lt-ltb, le-ltb, and_from, and_left, and_right}
 use Rattle.std.proofs.lemmas.List.{map-append, length-map, length-take, take-map, drop-map}
 use Rattle.std.proofs.lemmas.Option.{same_Some, slice_get_within}
@@ -11,8 +12,8 @@ use Rattle.test_lang.specs.declared.op.Op.{Op}
 use Rattle.test_lang.specs.declared.op.Op.TheVariants.{Load, Store, Fence}
 use Rattle.test_lang.specs.Program.{Program, nodes, op_count, first_node, thread_length, passes, passes_after}
 use Rattle.test_lang.specs.Values.{is_store, is_store_to, is_of, same_word, same_thread, value_of}
-use Rattle.test_lang.specs.Runs.{last_or_0, own_earlier, writes_for, base, others, candidates}
-use Rattle.test_lang.proofs.CandidateKinds.{last_or_0-push}
+use Rattle.test_lang.specs.Runs.{own_earlier, writes_for, base, others, candidates}
+use Rattle.test_lang.proofs.BaseStores.{last-push}
 use Rattle.test_lang.proofs.Places.{places, places-suc}
 use Rattle.test_lang.proofs.Threads.{StandsIn, thread_at-stands, stands-thread_at, thread_end-le}
 use Rattle.candidates.specs.Stores.{stores_before, stores_to, last_own}
@@ -121,7 +122,7 @@ module _ (p : Program) (load t x : ℕ) (e : slice_get (nodes p) load ≡ Some (
       let within : load < op_count p = slice_get_within (nodes p) load (t, Load x) e in
       let all : load + (op_count p - load) ≡ op_count p = omega (arith, within) in
       let own = λ (k : ℕ). passes (own_store t x) (slice_get (nodes p) k) in
-      ap (λ list. last_or_0 (map (value_of p) list))
+      ap (λ list. option_map_or (value_of p) (last_or None list) 0)
       (ap (λ n. filter (own_earlier p load) (nodes_below n)) (sym all)
       ∙ filter_cut (own_earlier p load) load (op_count p - load) (λ k from. own_earlier-is k ∙ and_right (own k) (nat_lt k load) (le-ltb k load from))
       ∙ filter_below (own_earlier p load) own load (λ k lt. own_earlier-is k ∙ ap (λ b. own k && b) (lt-ltb k load lt) ∙ and_true (own k)))
@@ -181,12 +182,12 @@ module _ (p : Program) (load t x : ℕ) (e : slice_get (nodes p) load ≡ Some (
 
 -- the last own store, one node further
 
-last_of_push : (f : ℕ → ℕ) (xs : List ℕ) (n : ℕ) → last_or_0 (map f (xs ++ n ∷ [])) ≡ f n
-last_of_push f xs n = ap last_or_0 (map-append f xs (n ∷ [])) ∙ last_or_0-push (map f xs) (f n)
+last_of_push : (f : ℕ → ℕ) (xs : List ℕ) (n : ℕ) → option_map_or f (last_or None (xs ++ n ∷ [])) 0 ≡ f n
+last_of_push f xs n = ap (λ found. option_map_or f found 0) (last-push xs n)
 
 module _ (p : Program) (t x : ℕ) where
   pub last_own-first : last_own p t x (first_node p t) ≡ 0
-  last_own-first = ap (λ list. last_or_0 (map (value_of p) list))
+  last_own-first = ap (λ list. option_map_or (value_of p) (last_or None list) 0)
       (filter_none (λ k. passes (own_store t x) (slice_get (nodes p) k)) (first_node p t) (λ k lt. none k lt (slice_get (nodes p) k) refl)) where
         none : (k : ℕ) → k < first_node p t → (found : Option (ℕ × Op)) → slice_get (nodes p) k ≡ found → passes (own_store t x) found ≡ false
         none k lt None is = refl
@@ -194,14 +195,14 @@ module _ (p : Program) (t x : ℕ) where
 
   pub last_own-same : (n : ℕ) (op : Op) → slice_get (nodes p) n ≡ Some (t, op) → is_store_to x op ≡ false → last_own p t x (suc n) ≡ last_own p t x n
   last_own-same n op e fails =
-      ap (λ list. last_or_0 (map (value_of p) list))
+      ap (λ list. option_map_or (value_of p) (last_or None list) 0)
       (places-suc (own_store t x) (nodes p) n (t, op) e
       ∙ ap (λ b. places (own_store t x) (nodes p) n ++ cond b (n ∷ []) []) (and_left (is_store_to x op) (t == t) fails)
       ∙ append-nil (places (own_store t x) (nodes p) n))
 
   pub last_own-store : (n : ℕ) (op : Op) → slice_get (nodes p) n ≡ Some (t, op) → is_store_to x op ≡ true → last_own p t x (suc n) ≡ value_of p n
   last_own-store n op e holds =
-      ap (λ list. last_or_0 (map (value_of p) list))
+      ap (λ list. option_map_or (value_of p) (last_or None list) 0)
       (places-suc (own_store t x) (nodes p) n (t, op) e
       ∙ ap (λ b. places (own_store t x) (nodes p) n ++ cond b (n ∷ []) []) (and_from (is_store_to x op) (t == t) holds (eq-eqb t t refl)))
       ∙ last_of_push (value_of p) (places (own_store t x) (nodes p) n) n

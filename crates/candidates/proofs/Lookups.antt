@@ -2,7 +2,7 @@
 use Rattle.std.proofs.Common.{◌≡◌, ◌≢◌, ◌∙◌, ◌↔◌, ℕ, zero, suc, ◌+◌, ◌-◌, ◌<◌, ◌≤◌, ◌⊎◌, List, [], ◌∷◌, ◌++◌, Bool, true, false, not, ◌&&◌, ◌||◌, cond, take, drop, length, get_or, Contains, Option, None, Some, refl, ap, arith, sym, subst, inl, inr, ⊎_elim, length-append, length-drop}
 use Rattle.std.specs.Prelude.{◌==◌, count_by, filter, position, nat_lt, nat_le, slice_get, if◌then◌else◌}
 use Rattle.std.specs.List.{position_or_len}
-use Rattle.std.specs.Option.{option_map, IsNone}
+use Rattle.std.specs.Option.{option_map, option_map_or, IsNone}
 use Rattle.std.proofs.lemmas.Bool.{and_parts, eqb-true, eq-eqb, ne_eqb, le-ltb, lt-ltb, not-true, le-leb, lt-leb, cond-true, cond-false, cases_eq, cases_lt}
 use Rattle.std.proofs.lemmas.List.Sums.{position_or_len_is, sum_by-cons}
 use Rattle.std.proofs.lemmas.List.{length-take}
@@ -12,9 +12,9 @@ use Rattle.test_lang.specs.declared.op.Op.{Op}
 use Rattle.test_lang.specs.declared.op.Op.TheVariants.{Load, Store, Fence}
 use Rattle.test_lang.specs.Program.{Program, nodes, all_nodes, op_count, passes}
 use Rattle.test_lang.specs.Values.{is_load, is_store, is_store_to, is_store_at, one_word, same_thread, load_count, store_count, value_of}
-use Rattle.test_lang.specs.Runs.{own_earlier, writes_for, base, others, candidates}
-use Rattle.test_lang.proofs.CandidateKinds.{LastBelow, last_below}
-use Rattle.test_lang.proofs.CandidateKinds.LastBelow.{nothing, last}
+use Rattle.test_lang.specs.Runs.{own_earlier, writes_for, base_store, base, others, candidates}
+use Rattle.test_lang.proofs.BaseStores.{LastBelow, base_store_below}
+use Rattle.test_lang.proofs.BaseStores.LastBelow.{nothing, last}
 use Rattle.test_lang.proofs.Places.{passing, place_at, places, slice_get_left}
 use Rattle.test_lang.proofs.Ranks.{one_store, value_of-le}
 use Rattle.candidates.specs.declared.load_rows.LoadRow.{LoadRow}
@@ -143,11 +143,14 @@ is_own_store p load w h =
     let parts = and_parts (writes_for p load w) (same_thread p load w && nat_lt w load) h in
     ((and_parts (is_store_at p w) (one_word p load w) parts.0).0, (and_parts (same_thread p load w) (nat_lt w load) parts.1).0)
 
-base_or_other : (p : Program) (load w : ℕ) → is_store_at p w ≡ true → same_thread p load w ≡ false → value_of p w ≡ base p load → LastBelow (own_earlier p load) (value_of p) (op_count p) (base p load) → ⊥
-base_or_other p load w store far e (nothing initial none) = omega (arith, e, initial)
-base_or_other p load w store far e (last own lt earlier is none) =
+base_or_other : (p : Program) (load w : ℕ) (found : Option ℕ) → is_store_at p w ≡ true → same_thread p load w ≡ false → value_of p w ≡ option_map_or (value_of p) found 0
+    → LastBelow (own_earlier p load) (op_count p) found → ⊥
+base_or_other p load w found store far e (nothing is none) =
+    let zero : option_map_or (value_of p) found 0 ≡ 0 = ap (λ (o : Option ℕ). option_map_or (value_of p) o 0) is in
+    omega (arith, e, zero)
+base_or_other p load w found store far e (last own lt earlier is none) =
     let mine = is_own_store p load own earlier in
-    let same : w ≡ own = one_store p w own store mine.0 (e ∙ sym is) in
+    let same : w ≡ own = one_store p w own store mine.0 (e ∙ ap (λ (o : Option ℕ). option_map_or (value_of p) o 0) is) in
     let near : same_thread p load w ≡ true = ap (same_thread p load) same ∙ mine.1 in
     absurd cc
 
@@ -156,7 +159,7 @@ base_is_no_other p load j e =
     let found : Contains (others p load) (base p load) = (j, slice_get_within (others p load) j (base p load) e, get_or_from_slice_get (others p load) j (base p load) (base p load) e) in
     let other = Contains-map_back (value_of p) (filter (λ n. writes_for p load n && not (same_thread p load n)) (all_nodes p)) (base p load) found in
     let parts = is_other_store p load other.0 (Contains-filter_back (λ n. writes_for p load n && not (same_thread p load n)) (all_nodes p) other.0 other.1).1 in
-    base_or_other p load other.0 parts.0 parts.1 other.2 (last_below (own_earlier p load) (value_of p) (op_count p))
+    base_or_other p load other.0 (base_store p load) parts.0 parts.1 other.2 (base_store_below p load)
 
 -- by the row of the load
 
@@ -358,14 +361,22 @@ finds_by_rows p load row value store t v = ⊎_elim
           (cases_lt 0 value))
 
 -- the base is 0 or the value of a store
-pub base_le : (p : Program) (load : ℕ) → LastBelow (own_earlier p load) (value_of p) (op_count p) (base p load) → base p load ≤ store_count p
-base_le p load (nothing initial none) = omega (arith, initial)
-base_le p load (last own lt earlier is none) = let few = value_of-le p own (is_own_store p load own earlier).0 in omega (arith, few, is)
+base_le_from : (p : Program) (load : ℕ) (found : Option ℕ) → LastBelow (own_earlier p load) (op_count p) found → option_map_or (value_of p) found 0 ≤ store_count p
+base_le_from p load found (nothing is none) =
+    let zero : option_map_or (value_of p) found 0 ≡ 0 = ap (λ (o : Option ℕ). option_map_or (value_of p) o 0) is in
+    omega (arith, zero)
+base_le_from p load found (last own lt earlier is none) =
+    let given : option_map_or (value_of p) found 0 ≡ value_of p own = ap (λ (o : Option ℕ). option_map_or (value_of p) o 0) is in
+    let few = value_of-le p own (is_own_store p load own earlier).0 in
+    omega (arith, given, few)
+
+pub base_le : (p : Program) (load : ℕ) → base p load ≤ store_count p
+base_le p load = base_le_from p load (base_store p load) (base_store_below p load)
 
 -- no row is there
 pub finds_no_row : (p : Program) (load : ℕ) (row : LoadRow) (value : ℕ) → TellsCandidates p load row → store_count p < value → FindsPlace (candidates p load) value None
 finds_no_row p load row value t past =
-    let few = base_le p load (last_below (own_earlier p load) (value_of p) (op_count p)) in
+    let few = base_le p load in
     let base_is = t.base_is in
     find_unknown p load row t value (λ same. omega (arith, few, base_is, same, past)) (λ known. let at_most = known.1 in omega (arith, past, at_most))
 

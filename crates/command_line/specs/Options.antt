@@ -35,11 +35,11 @@ command_of = named ((codes "check", command.Check) ∷ (codes "replay", command.
     ∷ (codes "race", command.Race) ∷ (codes "generate", command.Generate) ∷ (codes "demo", command.Demo) ∷ [])
 
 abbrev pub model_of : Text → Option MemModel
-model_of = named ((model_name model.Sc, model.Sc) ∷ (model_name model.Tso, model.Tso) ∷ (model_name model.Weak, model.Weak) ∷ [])
+model_of = named ((model_name model.Sc, model.Sc) ∷ (model_name model.Tso, model.Tso) ∷ (model_name model.Pso, model.Pso) ∷ (model_name model.Weak, model.Weak) ∷ [])
 
 -- a machine has the name of its model
 abbrev pub target_of : Text → Option Target
-target_of = named ((model_name model.Sc, target.Sc) ∷ (model_name model.Tso, target.Tso) ∷ (model_name model.Weak, target.Weak) ∷ [])
+target_of = named ((model_name model.Sc, target.Sc) ∷ (model_name model.Tso, target.Tso) ∷ (model_name model.Pso, target.Pso) ∷ (model_name model.Weak, target.Weak) ∷ [])
 
 abbrev pub plain_fault_of : Text → Option Fault
 plain_fault_of = named ((codes "none", fault.None) ∷ (codes "nofence", fault.NoFence) ∷ (codes "unordered", fault.Unordered)

@@ -53,7 +53,7 @@ const TSO: Settings = Settings {
     ..CHECK
 };
 
-const READ: [(&str, Settings); 32] = [
+const READ: [(&str, Settings); 35] = [
     ("check", CHECK),
     (
         "replay",
@@ -100,6 +100,13 @@ const READ: [(&str, Settings); 32] = [
     ("--model=tso check", TSO),
     ("check --model sc", CHECK),
     (
+        "check --model pso",
+        Settings {
+            model: MemModel::Pso,
+            ..CHECK
+        },
+    ),
+    (
         "check --model weak",
         Settings {
             model: MemModel::Weak,
@@ -111,6 +118,13 @@ const READ: [(&str, Settings); 32] = [
         "check --target tso",
         Settings {
             target: Target::Tso,
+            ..CHECK
+        },
+    ),
+    (
+        "check --target pso",
+        Settings {
+            target: Target::Pso,
             ..CHECK
         },
     ),
@@ -148,6 +162,14 @@ const READ: [(&str, Settings); 32] = [
         "check --fault unordered --target=tso",
         Settings {
             target: Target::Tso,
+            fault: Fault::Unordered,
+            ..CHECK
+        },
+    ),
+    (
+        "check --fault unordered --target pso",
+        Settings {
+            target: Target::Pso,
             fault: Fault::Unordered,
             ..CHECK
         },
@@ -293,7 +315,7 @@ fn words_are_read(rt: HostRuntime) -> Result<(), Fail> {
     Ok(())
 }
 
-const REFUSED: [&str; 65] = [
+const REFUSED: [&str; 66] = [
     // No command, or two, or one that isn't there.
     "",
     "--model sc",
@@ -320,7 +342,7 @@ const REFUSED: [&str; 65] = [
     "check --version",
     "help",
     // Texts that name nothing.
-    "check --model pso",
+    "check --model rmo",
     "check --model SC",
     "check --model=",
     "check --target none",
@@ -334,6 +356,7 @@ const REFUSED: [&str; 65] = [
     "check --fault nofence",
     "generate --fault loadload",
     "run --target tso --fault loadload",
+    "run --target pso --fault loadload",
     "run --target weak --fault unordered",
     // No numerals.
     "check --seed 007",

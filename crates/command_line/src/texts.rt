@@ -31,6 +31,7 @@ pub(crate) fn read_model(text: &str) -> Option<MemModel>
     match text {
         "sc" => Some(MemModel::Sc),
         "tso" => Some(MemModel::Tso),
+        "pso" => Some(MemModel::Pso),
         "weak" => Some(MemModel::Weak),
         _ => None,
     }
@@ -43,6 +44,7 @@ pub(crate) fn read_target(text: &str) -> Option<Target>
     match text {
         "sc" => Some(Target::Sc),
         "tso" => Some(Target::Tso),
+        "pso" => Some(Target::Pso),
         "weak" => Some(Target::Weak),
         _ => None,
     }

@@ -1,11 +1,12 @@
 -- The nodes of a thread stand in a row: so a node of a kind that is nearest in all threads is the nearest in a thread, or there is none in it.
 use Rattle.std.proofs.Common.{◌≡◌, ℕ, zero, suc, ◌<◌, ◌≤◌, Bool, true, false, ◌&&◌, cond, inl, inr, arith, refl, sym, ap, ◌∙◌}
 use Rattle.std.specs.Prelude.{◌-◌, Option, Some, None, IfSome, slice_get, ◌==◌}
-use Rattle.std.specs.Option.{option_map}
+use Rattle.std.specs.Option.{option_map, option_map_or}
 use Rattle.std.proofs.lemmas.Bool.{cases_order}
-use Rattle.test_lang.specs.declared.op.Op.{Op}
-use Rattle.test_lang.specs.Program.{Program, nodes, op_at, thread_at, op_count, at_node, passes, passes_after}
+use Rattle.test_lang.specs.declared.op.Action.{Action}
+use Rattle.test_lang.specs.Program.{Program, actions, action_at, thread_at, op_count, at_action}
 use Rattle.test_lang.specs.Values.{same_thread}
+use Rattle.test_lang.proofs.ActionNodes.{same_thread-actions}
 use Rattle.test_lang.proofs.EdgeTests.{at_nodes-below}
 use Rattle.test_lang.proofs.Nodes.{same_thread_iff}
 use Rattle.test_lang.proofs.Threads.{StandsIn, thread_at-stands, thread_at_some, earlier_thread}
@@ -104,35 +105,40 @@ first_from-same test other h zero k = refl
 first_from-same test other h (suc n) k = cond_same (test k) (other k) k (first_from test n (suc k)) (first_from other n (suc k)) (h k) (first_from-same test other h n (suc k))
 
 -- a node of a kind in a thread
-beside_is : (kind : Kind) (op : Op) (x y : Option (ℕ × Op)) → option_map (λ (node : ℕ × Op). node.1) x ≡ Some op →
-    (passes_after (λ first second. first.0 == second.0) x y && passes (λ node. is_kind kind op node.1) y) ≡ passes_after (λ own other. (own.0 == other.0) && is_kind kind own.1 other.1) x y
-beside_is kind op None y e = absurd cc
-beside_is kind op (Some x) None e = refl
-beside_is kind op (Some x) (Some y) e = let same : op ≡ x.1 = cc in ap (λ (o : Op). (x.0 == y.0) && is_kind kind o y.1) same
+beside_is : (kind : Kind) (action : Action) (x y : Option (ℕ × Action)) → option_map (λ (node : ℕ × Action). node.1) x ≡ Some action →
+    (option_map_or (λ first. option_map_or (λ second. first.0 == second.0) y false) x false && option_map_or (λ node. is_kind kind action node.1) y false)
+    ≡ option_map_or (λ own. option_map_or (λ other. (own.0 == other.0) && is_kind kind own.1 other.1) y false) x false
+beside_is kind action None y e = absurd cc
+beside_is kind action (Some x) None e = refl
+beside_is kind action (Some x) (Some y) e = let same : action ≡ x.1 = cc in ap (λ (o : Action). (x.0 == y.0) && is_kind kind o y.1) same
 
-pub last_of_kind_told : (p : Program) (kind : Kind) (n : ℕ) (op : Op) → op_at p n ≡ Some op → in_thread p n (last_node p n (is_kind kind op)) ≡ last_of_kind kind p n
-last_of_kind_told p kind n op e =
-    let test : ℕ → Bool = at_node (λ node. is_kind kind op node.1) p in
+kind_beside : (p : Program) (kind : Kind) (n k : ℕ) (action : Action) → action_at p n ≡ Some action → (same_thread p n k && at_action (λ node. is_kind kind action node.1) p k) ≡ is_kind_beside kind p n k
+kind_beside p kind n k action e =
+    ap (λ (b : Bool). b && at_action (λ node. is_kind kind action node.1) p k) (same_thread-actions p n k) ∙ beside_is kind action (slice_get (actions p) n) (slice_get (actions p) k) e
+
+pub last_of_kind_told : (p : Program) (kind : Kind) (n : ℕ) (action : Action) → action_at p n ≡ Some action → in_thread p n (last_node p n (is_kind kind action)) ≡ last_of_kind kind p n
+last_of_kind_told p kind n action e =
+    let test : ℕ → Bool = at_action (λ node. is_kind kind action node.1) p in
     last_in_thread p n test n (omega arith)
-    ∙ last_below-same (λ k. same_thread p n k && test k) (is_kind_beside kind p n) (λ k. beside_is kind op (slice_get (nodes p) n) (slice_get (nodes p) k) e) n
+    ∙ last_below-same (λ k. same_thread p n k && test k) (is_kind_beside kind p n) (λ k. kind_beside p kind n k action e) n
 
-pub next_of_kind_told : (p : Program) (kind : Kind) (n : ℕ) (op : Op) → n < op_count p → op_at p n ≡ Some op →
-    in_thread p n (first_passing p (op_count p - suc n) (is_kind kind op)) ≡ next_of_kind kind p n
-next_of_kind_told p kind n op lt e =
-    let test : ℕ → Bool = at_node (λ node. is_kind kind op node.1) p in
+pub next_of_kind_told : (p : Program) (kind : Kind) (n : ℕ) (action : Action) → n < op_count p → action_at p n ≡ Some action →
+    in_thread p n (first_passing p (op_count p - suc n) (is_kind kind action)) ≡ next_of_kind kind p n
+next_of_kind_told p kind n action lt e =
+    let test : ℕ → Bool = at_action (λ node. is_kind kind action node.1) p in
     let k : ℕ = op_count p - suc n in
     let from : op_count p - k ≡ suc n = omega (arith, lt) in
     ap (λ (c : ℕ). in_thread p n (first_from test k c)) from
     ∙ first_in_thread p n test k (suc n) (omega arith)
-    ∙ first_from-same (λ k. same_thread p n k && test k) (is_kind_beside kind p n) (λ k. beside_is kind op (slice_get (nodes p) n) (slice_get (nodes p) k) e) k (suc n)
+    ∙ first_from-same (λ k. same_thread p n k && test k) (is_kind_beside kind p n) (λ k. kind_beside p kind n k action e) k (suc n)
 
 -- what is found is a node
 
-pub last_node-below : (p : Program) (n : ℕ) (test : Op → Bool) (x : ℕ) → n ≤ op_count p → last_node p n test ≡ Some x → x < op_count p
-last_node-below p n test x h e = let lt = (last_below-some (at_node (λ node. test node.1) p) n x e).below in omega (arith, lt, h)
+pub last_node-below : (p : Program) (n : ℕ) (test : Action → Bool) (x : ℕ) → n ≤ op_count p → last_node p n test ≡ Some x → x < op_count p
+last_node-below p n test x h e = let lt = (last_below-some (at_action (λ node. test node.1) p) n x e).below in omega (arith, lt, h)
 
-pub first_passing-below : (p : Program) (k : ℕ) (test : Op → Bool) (x : ℕ) → k ≤ op_count p → first_passing p k test ≡ Some x → x < op_count p
-first_passing-below p k test x h e = let lt = (first_from-some (at_node (λ node. test node.1) p) k (op_count p - k) x e).before_end in omega (arith, lt, h)
+pub first_passing-below : (p : Program) (k : ℕ) (test : Action → Bool) (x : ℕ) → k ≤ op_count p → first_passing p k test ≡ Some x → x < op_count p
+first_passing-below p k test x h e = let lt = (first_from-some (at_action (λ node. test node.1) p) k (op_count p - k) x e).before_end in omega (arith, lt, h)
 
 in_thread-some : (p : Program) (n : ℕ) (found : Option ℕ) (x : ℕ) → in_thread p n found ≡ Some x → found ≡ Some x
 in_thread-some p n None x e = e

@@ -1,5 +1,5 @@
 -- The static edges and those of the loads reach each edge of the run.
-use Rattle.std.proofs.Common.{◌≡◌, ℕ, ◌<◌, ◌≤◌, List, [], ◌∷◌, Bool, true, false, cond, ◌&&◌, length, Contains, inl, inr, arith, refl, sym, ap, subst, ◌∙◌}
+use Rattle.std.proofs.Common.{◌≡◌, ℕ, ◌<◌, ◌≤◌, List, [], ◌∷◌, ◌++◌, Bool, true, false, cond, ◌&&◌, length, Contains, inl, inr, arith, refl, sym, ap, subst, ◌∙◌}
 use Rattle.std.specs.Prelude.{Option, Some, None, find, slice_get, ◌==◌, nat_lt}
 use Rattle.std.specs.List.{flat_map}
 use Rattle.std.specs.Option.{option_map}
@@ -13,21 +13,25 @@ use Rattle.orders.proofs.Below.{has-below}
 use Rattle.orders.proofs.FewEdges.{reach_append, reach_by_all}
 use Rattle.orders.proofs.Members.{Contains-head, Contains-tail, Contains-flat_map, Contains-flat_map_back, Contains-filter_back}
 use Rattle.test_lang.specs.declared.op.Op.{Op}
-use Rattle.test_lang.specs.declared.op.Op.TheVariants.{Load, Store, Fence}
+use Rattle.test_lang.specs.declared.op.Action.{Action}
+use Rattle.test_lang.specs.declared.op.Action.TheVariants.{Load, Store, Fence}
+use Rattle.test_lang.specs.Actions.{op_of}
 use Rattle.test_lang.specs.declared.op.MemModel.{MemModel}
-use Rattle.test_lang.specs.Program.{Program, nodes, all_nodes, op_count, at_node, passes, passes_after}
+use Rattle.test_lang.specs.Program.{Program, nodes, actions, all_nodes, op_count, at_node, passes, passes_after}
 use Rattle.test_lang.specs.Values.{is_load, is_store, same_word, is_load_at, is_store_at, same_thread, one_word, value_of, load_nodes}
 use Rattle.test_lang.specs.Kept.{keeps, is_kept}
-use Rattle.test_lang.specs.Runs.{value_read, writes_for, own_earlier, IsInside}
+use Rattle.test_lang.specs.Runs.{value_read, writes_for, own_earlier, base_store, IsInside}
 use Rattle.test_lang.specs.Edges.{Edge}
-use Rattle.test_lang.specs.Edges.Edge.{kept, reads_from, before_later, before_any}
+use Rattle.test_lang.specs.Edges.RunEdge.{kept, reads_from, before_later, before_any, written_before}
 use Rattle.test_lang.proofs.CandidateKinds.{IsCandidate, inside_candidate, load_nodes-has}
 use Rattle.test_lang.proofs.CandidateKinds.IsCandidate.{initial, own, other}
+use Rattle.test_lang.proofs.ActionNodes.{node_of, node-action, node-is}
+use Rattle.test_lang.proofs.BaseStores.{base_store_own}
 use Rattle.test_lang.proofs.EdgeTests.{at_node-below, edge-nodes}
 use Rattle.test_lang.proofs.Ranks.{one_store}
 use Rattle.test_lang.proofs.Threads.{thread_at-stands}
 use Rattle.digraph.specs.Digraph.{HasEdge}
-use Rattle.graph_model.specs.FewKept.{edge_to}
+use Rattle.graph_model.specs.FewKept.{edge_from, edge_to}
 use Rattle.graph_model.specs.LoadEdges.{store_of, next_store, edges_by_store, edges_of_load}
 use Rattle.graph_model.specs.StaticGraph.{StaticGraph, IsStaticGraph, few_run_edges}
 use Rattle.graph_model.proofs.Beside.{Is, kept_pair, kept_of_pair, both, both_true}
@@ -36,31 +40,31 @@ use Rattle.graph_model.proofs.LoadEdges.{next_store-some, first-some, IsNextStor
 
 -- nodes by their kinds
 
-load_from : (found : Option (ℕ × Op)) → passes (λ node. is_load node.1) found ≡ true → (t : ℕ) × (x : ℕ) × (found ≡ Some (t, Load x))
+load_from : (found : Option (ℕ × Action)) → passes (λ node. is_load node.1) (option_map node_of found) ≡ true → (t : ℕ) × (x : ℕ) × (found ≡ Some (t, Load x))
 load_from None h = absurd cc
 load_from (Some (t, Load x)) h = (t, x, refl)
 load_from (Some (t, Store x)) h = absurd cc
-load_from (Some (t, Fence)) h = absurd cc
+load_from (Some (t, Fence kind)) h = absurd cc
 
-load_is : (p : Program) (n : ℕ) → is_load_at p n ≡ true → (t : ℕ) × (x : ℕ) × Is p n t (Load x)
-load_is p n h = load_from (slice_get (nodes p) n) h
+pub load_is : (p : Program) (n : ℕ) → is_load_at p n ≡ true → (t : ℕ) × (x : ℕ) × Is p n t (Load x)
+load_is p n h = load_from (slice_get (actions p) n) (sym (ap (passes (λ node. is_load node.1)) (node-action p n)) ∙ h)
 
-store_from : (found : Option (ℕ × Op)) → passes (λ node. is_store node.1) found ≡ true → (t : ℕ) × (x : ℕ) × (found ≡ Some (t, Store x))
+store_from : (found : Option (ℕ × Action)) → passes (λ node. is_store node.1) (option_map node_of found) ≡ true → (t : ℕ) × (x : ℕ) × (found ≡ Some (t, Store x))
 store_from None h = absurd cc
 store_from (Some (t, Load x)) h = absurd cc
 store_from (Some (t, Store x)) h = (t, x, refl)
-store_from (Some (t, Fence)) h = absurd cc
+store_from (Some (t, Fence kind)) h = absurd cc
 
-store_is : (p : Program) (n : ℕ) → is_store_at p n ≡ true → (t : ℕ) × (x : ℕ) × Is p n t (Store x)
-store_is p n h = store_from (slice_get (nodes p) n) h
+pub store_is : (p : Program) (n : ℕ) → is_store_at p n ≡ true → (t : ℕ) × (x : ℕ) × Is p n t (Store x)
+store_is p n h = store_from (slice_get (actions p) n) (sym (ap (passes (λ node. is_store node.1)) (node-action p n)) ∙ h)
 
-threads_are : (p : Program) (a b t u : ℕ) (x y : Op) → Is p a t x → Is p b u y → same_thread p a b ≡ (t == u)
+threads_are : (p : Program) (a b t u : ℕ) (x y : Action) → Is p a t x → Is p b u y → same_thread p a b ≡ (t == u)
 threads_are p a b t u x y e f =
-    ap (λ (o : Option (ℕ × Op)). passes_after (λ first second. first.0 == second.0) o (slice_get (nodes p) b)) e ∙ ap (passes (λ second. t == second.0)) f
+    ap (λ (o : Option (ℕ × Op)). passes_after (λ first second. first.0 == second.0) o (slice_get (nodes p) b)) (node-is p a t x e) ∙ ap (passes (λ second. t == second.0)) (node-is p b u y f)
 
-words_are : (p : Program) (a b t u : ℕ) (x y : Op) → Is p a t x → Is p b u y → one_word p a b ≡ same_word x y
+pub words_are : (p : Program) (a b t u : ℕ) (x y : Action) → Is p a t x → Is p b u y → one_word p a b ≡ same_word (op_of x) (op_of y)
 words_are p a b t u x y e f =
-    ap (λ (o : Option (ℕ × Op)). passes_after (λ first second. same_word first.1 second.1) o (slice_get (nodes p) b)) e ∙ ap (passes (λ second. same_word x second.1)) f
+    ap (λ (o : Option (ℕ × Op)). passes_after (λ first second. same_word first.1 second.1) o (slice_get (nodes p) b)) (node-is p a t x e) ∙ ap (passes (λ second. same_word (op_of x) second.1)) (node-is p b u y f)
 
 -- pairs of one word that each model keeps
 
@@ -88,15 +92,18 @@ stores_kept m p a b lt h k beside word =
 
 -- the edges of a load that gives a store of another thread
 edges_of_store : (p : Program) (run : List ℕ) (load store : ℕ) → is_store_at p store ≡ true → value_read p run load ≡ value_of p store → same_thread p store load ≡ false →
-    edges_of_load p run load ≡ (store, load) ∷ edge_to load (next_store p store)
+    edges_of_load p run load ≡ (store, load) ∷ (edge_to load (next_store p store) ++ edge_from store (base_store p load))
 edges_of_store p run load store h value apart =
     edges_of_value p run load (λ zero. omega (arith, zero, value))
     ∙ ap (λ (v : ℕ). edges_by_store p load (store_of p v)) value
     ∙ ap (edges_by_store p load) (store_of-value p store h)
-    ∙ ap (λ (b : Bool). cond b [] ((store, load) ∷ edge_to load (next_store p store))) apart
+    ∙ ap (λ (b : Bool). cond b [] ((store, load) ∷ (edge_to load (next_store p store) ++ edge_from store (base_store p load)))) apart
 
 has_edge_to : (n : ℕ) (found : Option ℕ) (k : ℕ) → found ≡ Some k → Contains (edge_to n found) (n, k)
 has_edge_to n found k e = subst (λ (o : Option ℕ). Contains (edge_to n o) (n, k)) (sym e) (Contains-head {X = ℕ × ℕ} (n, k) [] (n, k) refl)
+
+has_edge_from : (n : ℕ) (found : Option ℕ) (k : ℕ) → found ≡ Some k → Contains (edge_from n found) (k, n)
+has_edge_from n found k e = subst (λ (o : Option ℕ). Contains (edge_from n o) (k, n)) (sym e) (Contains-head {X = ℕ × ℕ} (k, n) [] (k, n) refl)
 
 lt_true : (a b : ℕ) → a < b → nat_lt a b ≡ true
 lt_true a b h = grind (arith, nat_tests)
@@ -112,7 +119,7 @@ first_found : (p : Program) (load b t x : ℕ) → Is p b t (Store x) → is_sto
 first_found p load b t x is h word =
     find_below-found (λ n. writes_for p load n && at_node (λ node. node.0 == t) p n) (op_count p) b (at_node-below (λ node. is_store node.1) p b h)
     (both_true (writes_for p load b) (at_node (λ node. node.0 == t) p b) (both_true (is_store_at p b) (one_word p load b) h word)
-    (ap (passes (λ node. node.0 == t)) is ∙ eq-eqb t t refl))
+    (ap (passes (λ node. node.0 == t)) (node-is p b t (Store x) is) ∙ eq-eqb t t refl))
 
 -- two stores that follow one store in its thread, on its word
 both_later : (p : Program) (store a b : ℕ) → is_store_at p store ≡ true → IsNextStore p store a → is_store_at p b ≡ true → same_thread p store b ≡ true → one_word p store b ≡ true →
@@ -135,7 +142,7 @@ both_for : (p : Program) (load a b t x : ℕ) → is_load_at p load ≡ true →
 both_for p load a b t x h n in_thread is word =
     let l = load_is p load h in
     let s = store_is p a n.is_store in
-    let u : s.0 ≡ t = eqb-true s.0 t (sym (ap (passes (λ node. node.0 == t)) s.2) ∙ in_thread) in
+    let u : s.0 ≡ t = eqb-true s.0 t (sym (ap (passes (λ node. node.0 == t)) (node-is p a s.0 (Store s.1) s.2)) ∙ in_thread) in
     let w = eqb-true l.1 s.1 (sym (words_are p load a l.0 s.0 (Load l.1) (Store s.1) l.2 s.2) ∙ n.word) in
     let v = eqb-true l.1 x (sym (words_are p load b l.0 t (Load l.1) (Store x) l.2 is) ∙ word) in (
       threads_are p a b s.0 t (Store s.1) (Store x) s.2 is ∙ eq-eqb s.0 t u,
@@ -144,7 +151,7 @@ both_for p load a b t x h n in_thread is word =
 
 -- a load that gives a store of its own thread comes before the later ones
 
-not_both : (found : Option (ℕ × Op)) (t u x y : ℕ) → found ≡ Some (t, Load x) → found ≡ Some (u, Store y) → ⊥
+not_both : (found : Option (ℕ × Action)) (t u x y : ℕ) → found ≡ Some (t, Load x) → found ≡ Some (u, Store y) → ⊥
 not_both found t u x y e f = grind (arith, nat_tests)
 
 store_of_writes : (p : Program) (load w : ℕ) → own_earlier p load w ≡ true → (is_store_at p w ≡ true) × (one_word p load w ≡ true)
@@ -183,7 +190,7 @@ module _ (m : MemModel) (p : Program) (run : List ℕ) (a store b : ℕ) (load :
               cc
           | inr not_after ↦
               let same : b ≡ a = omega (arith, behind, not_after) in
-              not_both (slice_get (nodes p) a) l.0 r.0 l.1 r.1 l.2 (subst (λ (n : ℕ). Is p n r.0 (Store r.1)) same r.2)
+              not_both (slice_get (actions p) a) l.0 r.0 l.1 r.1 l.2 (subst (λ (n : ℕ). Is p n r.0 (Store r.1)) same r.2)
         ])
       ]
 
@@ -233,7 +240,8 @@ module _ (s : StaticGraph) (run : List ℕ) (sound : IsStaticGraph s) (inside : 
       let n = next_found s.test store b lt k beside word in
       let edges = edges_of_store s.test run a store h value e in
       let edge : Contains (edges_of_load s.test run a) (a, n.0) =
-      subst (λ (x : List (ℕ × ℕ)). Contains x (a, n.0)) (sym edges) (Contains-tail {X = ℕ × ℕ} (store, a) (edge_to a (next_store s.test store)) (a, n.0) (has_edge_to a (next_store s.test store) n.0 n.1)) in
+      subst (λ (x : List (ℕ × ℕ)). Contains x (a, n.0)) (sym edges) (Contains-tail {X = ℕ × ℕ} (store, a) (edge_to a (next_store s.test store) ++ edge_from store (base_store s.test a)) (a, n.0)
+      (Contains-append_left (edge_to a (next_store s.test store)) (edge_from store (base_store s.test a)) (a, n.0) (has_edge_to a (next_store s.test store) n.0 n.1))) in
       let next = next_store-some s.test store n.0 n.1 in
       by_store a n.0 b (load_edge a a n.0 load edge) n.2
       (λ before. let same = both_later s.test store n.0 b h next k beside word in stores_kept s.model s.test n.0 b before next.is_store k same.0 same.1)
@@ -246,7 +254,7 @@ module _ (s : StaticGraph) (run : List ℕ) (sound : IsStaticGraph s) (inside : 
       let found = find_below-some (λ n. writes_for s.test a n && at_node (λ node. node.0 == t) s.test n) (op_count s.test) f.0 f.1 in
       let in_thread = (both (writes_for s.test a f.0) (at_node (λ node. node.0 == t) s.test f.0) found.passes).1 in
       let first = first-some s.test a t f.0 f.1 in
-      let range : t < length s.test.threads = (thread_at-stands s.test b t (ap (option_map (λ (node : ℕ × Op). node.0)) is.2)).in_range in
+      let range : t < length s.test.threads = (thread_at-stands s.test b t (ap (option_map (λ (node : ℕ × Op). node.0)) (node-is s.test b t (Store is.1) is.2))).in_range in
       let edge : Contains (edges_of_load s.test run a) (a, f.0) =
       subst (λ (x : List (ℕ × ℕ)). Contains x (a, f.0)) (sym (edges_of_initial s.test run a value))
       (Contains-flat_map (λ thread. edge_to a (find (λ n. writes_for s.test a n && at_node (λ node. node.0 == thread) s.test n) (all_nodes s.test))) (nodes_below (length s.test.threads)) t (a, f.0) (has-below (length s.test.threads) t range)
@@ -258,9 +266,16 @@ module _ (s : StaticGraph) (run : List ℕ) (sound : IsStaticGraph s) (inside : 
   few_run_edges-reaching a b (kept h) = static_reaches a b h
   few_run_edges-reaching a b (reads_from store load value apart) =
       let edges = edges_of_store s.test run b a store value apart in
-      ([], load_edge b a b load (subst (λ (x : List (ℕ × ℕ)). Contains x (a, b)) (sym edges) (Contains-head {X = ℕ × ℕ} (a, b) (edge_to b (next_store s.test a)) (a, b) refl)))
+      ([], load_edge b a b load (subst (λ (x : List (ℕ × ℕ)). Contains x (a, b)) (sym edges) (Contains-head {X = ℕ × ℕ} (a, b) (edge_to b (next_store s.test a) ++ edge_from a (base_store s.test b)) (a, b) refl)))
   few_run_edges-reaching a b (before_later w load store value later beside lt word) = later_reached a w b load store value later beside lt word (same_thread s.test w a) refl
   few_run_edges-reaching a b (before_any load value store word) = any_reached a b load value store word
+  few_run_edges-reaching a b (written_before l store load value apart base) =
+      let edges = edges_of_store s.test run l b store value apart in (
+        [],
+        load_edge l a b load (subst (λ (x : List (ℕ × ℕ)). Contains x (a, b)) (sym edges)
+            (Contains-tail {X = ℕ × ℕ} (b, l) (edge_to l (next_store s.test b) ++ edge_from b (base_store s.test l)) (a, b)
+            (Contains-append_right (edge_to l (next_store s.test b)) (edge_from b (base_store s.test l)) (a, b) (has_edge_from b (base_store s.test l) a base)))),
+      )
 
   pub few_run_edges-among : IsAmong (HasEdge (few_run_edges s run)) (Edge s.model s.test run)
   few_run_edges-among a b h = elim (Contains-append_cases s.graph.edges (flat_map (edges_of_load s.test run) (load_nodes s.test)) (a, b) h) [
@@ -275,11 +290,11 @@ pub edges_within : (m : MemModel) (p : Program) (run : List ℕ) → IsWithin (E
 edges_within m p run a b h = let below = edge-nodes m p run a b h in (has-below (op_count p) a below.0, has-below (op_count p) b below.1)
 
 -- a node is no load and store at once
-no_load_and_store : (p : Program) (n : ℕ) → is_load_at p n ≡ true → is_store_at p n ≡ true → ⊥
+pub no_load_and_store : (p : Program) (n : ℕ) → is_load_at p n ≡ true → is_store_at p n ≡ true → ⊥
 no_load_and_store p n h k =
     let l = load_is p n h in
     let s = store_is p n k in
-    not_both (slice_get (nodes p) n) l.0 s.0 l.1 s.1 l.2 s.2
+    not_both (slice_get (actions p) n) l.0 s.0 l.1 s.1 l.2 s.2
 
 -- no edge leads from a node to itself
 pub no_loop : (m : MemModel) (p : Program) (run : List ℕ) (a : ℕ) → Edge m p run a a → ⊥
@@ -287,3 +302,11 @@ no_loop m p run a (kept h) = let lt = (kept_pair m p a a h).earlier in omega (ar
 no_loop m p run a (reads_from store load value apart) = no_load_and_store p a load store
 no_loop m p run a (before_later w load store value later beside lt word) = no_load_and_store p a load later
 no_loop m p run a (before_any load value store word) = no_load_and_store p a load store
+no_loop m p run a (written_before l store load value apart base) =
+    let own = both (writes_for p l a) (same_thread p l a && nat_lt a l) (base_store_own p l a base) in
+    let joined : same_thread p l a ≡ true = (both (same_thread p l a) (nat_lt a l) own.1).0 in
+    let x = load_is p l load in
+    let y = store_is p a store in
+    let same : x.0 ≡ y.0 = eqb-true x.0 y.0 (sym (threads_are p l a x.0 y.0 (Load x.1) (Store y.1) x.2 y.2) ∙ joined) in
+    let back : same_thread p a l ≡ true = threads_are p a l y.0 x.0 (Store y.1) (Load x.1) y.2 x.2 ∙ eq-eqb y.0 x.0 (sym same) in
+    absurd cc

@@ -18,3 +18,4 @@ pub mod RunVerdicts
 pub mod WordLoads
 pub mod RunSources
 mod FirstLists
+pub mod WrittenBefore

@@ -1,22 +1,23 @@
 -- The few edges of a load are edges of the run.
-use Rattle.std.proofs.Common.{◌≡◌, ℕ, ◌<◌, List, [], ◌∷◌, Bool, true, false, cond, ◌&&◌, length, Contains, inl, inr, arith, refl, sym, ap, subst}
+use Rattle.std.proofs.Common.{◌≡◌, ℕ, ◌<◌, List, [], ◌∷◌, ◌++◌, Bool, true, false, cond, ◌&&◌, length, Contains, inl, inr, arith, refl, sym, ap, subst}
 use Rattle.std.specs.Prelude.{find, Option, Some, None, ◌==◌, nat_lt}
 use Rattle.std.proofs.lemmas.Bool.{cases_eq, eqb-true, eq-eqb, ne_eqb}
 use Rattle.std.proofs.lemmas.Bool.Decides.{nat_tests}
+use Rattle.std.proofs.lemmas.List.Elements.{Contains-append_cases}
 use Rattle.orders.specs.Orders.{nodes_below}
 use Rattle.orders.proofs.Members.{Contains-nil, Contains-cons_cases, Contains-flat_map_back}
 use Rattle.test_lang.specs.declared.op.MemModel.{MemModel}
 use Rattle.test_lang.specs.Program.{Program, all_nodes, op_count, at_node}
 use Rattle.test_lang.specs.Values.{is_store, is_load_at, is_store_at, same_thread, one_word, value_of}
-use Rattle.test_lang.specs.Runs.{value_read, writes_for}
+use Rattle.test_lang.specs.Runs.{value_read, writes_for, base_store}
 use Rattle.test_lang.specs.Edges.{Edge}
-use Rattle.test_lang.specs.Edges.Edge.{reads_from, before_later, before_any}
+use Rattle.test_lang.specs.Edges.RunEdge.{reads_from, before_later, before_any, written_before}
 use Rattle.test_lang.proofs.EdgeTests.{at_node-below}
 use Rattle.test_lang.proofs.Ranks.{one_store}
-use Rattle.graph_model.specs.FewKept.{edge_to}
+use Rattle.graph_model.specs.FewKept.{edge_from, edge_to}
 use Rattle.graph_model.specs.LoadEdges.{store_of, next_store, edges_to_first_stores, edges_by_store, edges_of_load}
 use Rattle.graph_model.proofs.Beside.{both, both_true}
-use Rattle.graph_model.proofs.Chains.{edge_to_is}
+use Rattle.graph_model.proofs.Chains.{edge_from_is, edge_to_is}
 use Rattle.graph_model.proofs.Found.{find_below-some, find_below-is}
 
 -- what the searches find
@@ -84,17 +85,22 @@ edges_of_value p run load ne =
 
 module _ (m : MemModel) (p : Program) (run : List ℕ) (load : ℕ) (is_load_node : is_load_at p load ≡ true) where
   by_store_among : (store : ℕ) → is_store_at p store ≡ true → value_of p store ≡ value_read p run load → (apart : Bool) → same_thread p store load ≡ apart → (a b : ℕ) →
-      Contains {X = ℕ × ℕ} (cond apart [] ((store, load) ∷ edge_to load (next_store p store))) (a, b) → Edge m p run a b
+      Contains {X = ℕ × ℕ} (cond apart [] ((store, load) ∷ (edge_to load (next_store p store) ++ edge_from store (base_store p load)))) (a, b) → Edge m p run a b
   by_store_among store is_store_node value true e a b h = absurd (Contains-nil {X = ℕ × ℕ} (a, b) h)
-  by_store_among store is_store_node value false e a b h = elim (Contains-cons_cases {X = ℕ × ℕ} (store, load) (edge_to load (next_store p store)) (a, b) h) [
+  by_store_among store is_store_node value false e a b h = elim (Contains-cons_cases {X = ℕ × ℕ} (store, load) (edge_to load (next_store p store) ++ edge_from store (base_store p load)) (a, b) h) [
     | inl same ↦
         let source = ap (λ (x : ℕ × ℕ). x.0) same in
         let target = ap (λ (x : ℕ × ℕ). x.1) same in
         subst (λ (x : ℕ). Edge m p run x b) source (subst (λ (y : ℕ). Edge m p run store y) target (reads_from is_store_node is_load_node (sym value) e))
-    | inr more ↦
-        let is = edge_to_is load (next_store p store) a b more in
-        let next = next_store-some p store b is.1 in
-        subst (λ (x : ℕ). Edge m p run x b) is.0 (before_later store is_load_node is_store_node (sym value) next.is_store next.beside next.later next.word)
+    | inr more ↦ elim (Contains-append_cases (edge_to load (next_store p store)) (edge_from store (base_store p load)) (a, b) more) [
+      | inl later ↦
+          let is = edge_to_is load (next_store p store) a b later in
+          let next = next_store-some p store b is.1 in
+          subst (λ (x : ℕ). Edge m p run x b) is.0 (before_later store is_load_node is_store_node (sym value) next.is_store next.beside next.later next.word)
+      | inr written ↦
+          let is = edge_from_is store (base_store p load) a b written in
+          subst (λ (y : ℕ). Edge m p run a y) is.1 (written_before load is_store_node is_load_node (sym value) e is.0)
+    ]
   ]
 
   by_found_among : (found : Option ℕ) → store_of p (value_read p run load) ≡ found → (a b : ℕ) → Contains (edges_by_store p load found) (a, b) → Edge m p run a b

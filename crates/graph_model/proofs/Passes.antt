@@ -1,13 +1,13 @@
 -- A pass over all nodes, in either direction: the edges so far, and what the table of nearest nodes tells.
-use Rattle.std.proofs.Common.{◌≡◌, ℕ, suc, ◌+◌, ◌-◌, ◌*◌, ◌<◌, ◌≤◌, List, [], ◌∷◌, ◌++◌, Bool, cond, length, arith, refl, sym, ap, subst, ◌∙◌, length-append, append-nil, append_assoc}
+use Rattle.std.proofs.Common.{◌≡◌, ℕ, suc, ◌+◌, ◌-◌, ◌*◌, ◌<◌, ◌≤◌, List, [], ◌∷◌, ◌++◌, Bool, false, cond, length, arith, refl, sym, ap, subst, ◌∙◌, length-append, append-nil, append_assoc}
 use Rattle.std.specs.Prelude.{Option, Some, None, slice_get}
-use Rattle.std.specs.Option.{option_map}
+use Rattle.std.specs.Option.{option_map, option_map_or}
 use Rattle.std.specs.List.{flat_map}
 use Rattle.std.proofs.lemmas.Grind.{flat_map-append}
 use Rattle.orders.specs.Orders.{nodes_below}
-use Rattle.test_lang.specs.declared.op.Op.{Op}
+use Rattle.test_lang.specs.declared.op.Action.{Action}
 use Rattle.test_lang.specs.declared.op.MemModel.{MemModel}
-use Rattle.test_lang.specs.Program.{Program, nodes, op_at, op_count, at_node, passes}
+use Rattle.test_lang.specs.Program.{Program, actions, action_at, op_count, at_action}
 use Rattle.digraph.specs.Digraph.{Digraph}
 use Rattle.graph_model.specs.declared.nearest.Nearest.{Nearest}
 use Rattle.graph_model.specs.FirstLast.{first_from}
@@ -74,35 +74,37 @@ all_into_room m p g h e empty room =
 
 -- what the table tells
 
-tells_same : (f g : (Op → Bool) → Option ℕ) (table : Nearest) → ((test : Op → Bool) → f test ≡ g test) → Tells f table → Tells g table
+tells_same : (f g : (Action → Bool) → Option ℕ) (table : Nearest) → ((test : Action → Bool) → f test ≡ g test) → Tells f table → Tells g table
 tells_same f g table h t = record {
   any = t.any ∙ h _;
-  load_or_fence = t.load_or_fence ∙ h _;
-  store = t.store ∙ h _;
-  fence = t.fence ∙ h _;
+  not_store_like = t.not_store_like ∙ h _;
+  store_like = t.store_like ∙ h _;
+  store_fence = t.store_fence ∙ h _;
+  store_barrier = t.store_barrier ∙ h _;
+  load_barrier = t.load_barrier ∙ h _;
   loads = λ word lt. t.loads word lt ∙ h _;
   stores = λ word lt. t.stores word lt ∙ h _;
   nothing = sym (h _) ∙ t.nothing;
 }
 
-test_from : (test : Op → Bool) (found : Option (ℕ × Op)) (op : Op) → option_map (λ (node : ℕ × Op). node.1) found ≡ Some op → test op ≡ passes (λ node. test node.1) found
-test_from test None op e = absurd cc
-test_from test (Some x) op e = let same : op ≡ x.1 = cc in ap test same
+test_from : (test : Action → Bool) (found : Option (ℕ × Action)) (action : Action) → option_map (λ (node : ℕ × Action). node.1) found ≡ Some action → test action ≡ option_map_or (λ node. test node.1) found false
+test_from test None action e = absurd cc
+test_from test (Some x) action e = let same : action ≡ x.1 = cc in ap test same
 
-pub tells_last : (p : Program) (n : ℕ) (op : Op) (table : Nearest) → op_at p n ≡ Some op → Tells (with_node (last_node p n) n op) table → Tells (last_node p (n + 1)) table
-tells_last p n op table e t =
+pub tells_last : (p : Program) (n : ℕ) (action : Action) (table : Nearest) → action_at p n ≡ Some action → Tells (with_node (last_node p n) n action) table → Tells (last_node p (n + 1)) table
+tells_last p n action table e t =
     let next : suc n ≡ n + 1 = omega arith in
     subst (λ (k : ℕ). Tells (last_node p k) table) next
-    (tells_same (with_node (last_node p n) n op) (last_node p (suc n)) table (λ test. ap (λ (b : Bool). cond b (Some n) (last_node p n test)) (test_from test (slice_get (nodes p) n) op e)) t)
+    (tells_same (with_node (last_node p n) n action) (last_node p (suc n)) table (λ test. ap (λ (b : Bool). cond b (Some n) (last_node p n test)) (test_from test (slice_get (actions p) n) action e)) t)
 
-pub tells_first : (p : Program) (end : ℕ) (op : Op) (table : Nearest) → 0 < end → end ≤ op_count p → op_at p (end - 1) ≡ Some op →
-    Tells (with_node (first_passing p (op_count p - end)) (end - 1) op) table → Tells (first_passing p (op_count p - (end - 1))) table
-tells_first p end op table some within e t =
+pub tells_first : (p : Program) (end : ℕ) (action : Action) (table : Nearest) → 0 < end → end ≤ op_count p → action_at p (end - 1) ≡ Some action →
+    Tells (with_node (first_passing p (op_count p - end)) (end - 1) action) table → Tells (first_passing p (op_count p - (end - 1))) table
+tells_first p end action table some within e t =
     let next : suc (op_count p - end) ≡ op_count p - (end - 1) = omega (arith, some, within) in
     let from : op_count p - suc (op_count p - end) ≡ end - 1 = omega (arith, some, within) in
     let behind : op_count p - (op_count p - end) ≡ suc (end - 1) = omega (arith, some, within) in
     subst (λ (k : ℕ). Tells (first_passing p k) table) next
-    (tells_same (with_node (first_passing p (op_count p - end)) (end - 1) op) (first_passing p (suc (op_count p - end))) table (λ test.
-    ap (λ (b : Bool). cond b (Some (end - 1)) (first_passing p (op_count p - end) test)) (test_from test (slice_get (nodes p) (end - 1)) op e)
-    ∙ ap (λ (c : ℕ). cond (at_node (λ node. test node.1) p (end - 1)) (Some (end - 1)) (first_from (at_node (λ node. test node.1) p) (op_count p - end) c)) behind
-    ∙ ap (λ (c : ℕ). cond (at_node (λ node. test node.1) p c) (Some c) (first_from (at_node (λ node. test node.1) p) (op_count p - end) (suc c))) (sym from)) t)
+    (tells_same (with_node (first_passing p (op_count p - end)) (end - 1) action) (first_passing p (suc (op_count p - end))) table (λ test.
+    ap (λ (b : Bool). cond b (Some (end - 1)) (first_passing p (op_count p - end) test)) (test_from test (slice_get (actions p) (end - 1)) action e)
+    ∙ ap (λ (c : ℕ). cond (at_action (λ node. test node.1) p (end - 1)) (Some (end - 1)) (first_from (at_action (λ node. test node.1) p) (op_count p - end) c)) behind
+    ∙ ap (λ (c : ℕ). cond (at_action (λ node. test node.1) p c) (Some c) (first_from (at_action (λ node. test node.1) p) (op_count p - end) (suc c))) (sym from)) t)

@@ -4,9 +4,9 @@ use Rattle.std.specs.Prelude.{Option, Some, None}
 use Rattle.std.specs.List.{flat_map}
 use Rattle.orders.specs.Orders.{nodes_below}
 use Rattle.orders.proofs.Below.{length-below}
-use Rattle.test_lang.specs.declared.op.Op.{Op}
+use Rattle.test_lang.specs.declared.op.Action.{Action}
 use Rattle.test_lang.specs.declared.op.MemModel.{MemModel}
-use Rattle.test_lang.specs.Program.{Program, op_at, op_count}
+use Rattle.test_lang.specs.Program.{Program, action_at, op_count}
 use Rattle.graph_model.specs.declared.kinds.Kind.{Kind}
 use Rattle.graph_model.specs.FewKept.{last_of_kind, next_of_kind, kinds_before, kinds_after, kinds_of, edge_from, edge_to, edges_into, edges_onward, few_kept}
 use Rattle.graph_model.proofs.KindTables.{few_before, few_after}
@@ -27,20 +27,20 @@ pub length-edge_to : (n : ℕ) (found : Option ℕ) → length (edge_to n found)
 length-edge_to n None = omega arith
 length-edge_to n (Some k) = omega arith
 
-length-kinds_of : (kinds : Op → List Kind) (k : ℕ) → ((op : Op) → length (kinds op) ≤ k) → (found : Option Op) → length (kinds_of kinds found) ≤ k
+length-kinds_of : (kinds : Action → List Kind) (k : ℕ) → ((action : Action) → length (kinds action) ≤ k) → (found : Option Action) → length (kinds_of kinds found) ≤ k
 length-kinds_of kinds k h None = omega arith
-length-kinds_of kinds k h (Some op) = h op
+length-kinds_of kinds k h (Some action) = h action
 
 pub length-edges_into : (m : MemModel) (p : Program) (n : ℕ) → length (edges_into m p n) ≤ 3
 length-edges_into m p n =
-    let kinds = length-kinds_of (kinds_before m) 3 (few_before m) (op_at p n) in
-    let each = length-flat_map_le (λ kind. edge_from n (last_of_kind kind p n)) (kinds_of (kinds_before m) (op_at p n)) 1 (λ kind. length-edge_from n (last_of_kind kind p n)) in
+    let kinds = length-kinds_of (kinds_before m) 3 (few_before m) (action_at p n) in
+    let each = length-flat_map_le (λ kind. edge_from n (last_of_kind kind p n)) (kinds_of (kinds_before m) (action_at p n)) 1 (λ kind. length-edge_from n (last_of_kind kind p n)) in
     omega (arith, kinds, each)
 
 pub length-edges_onward : (m : MemModel) (p : Program) (n : ℕ) → length (edges_onward m p n) ≤ 1
 length-edges_onward m p n =
-    let kinds = length-kinds_of (kinds_after m) 1 (few_after m) (op_at p n) in
-    let each = length-flat_map_le (λ kind. edge_to n (next_of_kind kind p n)) (kinds_of (kinds_after m) (op_at p n)) 1
+    let kinds = length-kinds_of (kinds_after m) 1 (few_after m) (action_at p n) in
+    let each = length-flat_map_le (λ kind. edge_to n (next_of_kind kind p n)) (kinds_of (kinds_after m) (action_at p n)) 1
     (λ kind. length-edge_to n (next_of_kind kind p n)) in
     omega (arith, kinds, each)
 

@@ -1,40 +1,41 @@
 -- The table of loads of each word.
-use Rattle.std.proofs.Common.{◌≡◌, ◌∙◌, ℕ, zero, suc, ◌+◌, ◌<◌, ◌≤◌, List, Bool, true, false, cond, length, get_or, set, inl, inr, arith, refl, sym, ap, get_or-set_same, get_or-set_other}
+use Rattle.std.proofs.Common.{◌≡◌, ◌∙◌, ℕ, zero, suc, ◌+◌, ◌<◌, ◌≤◌, List, [], ◌∷◌, Bool, true, false, cond, length, get_or, set, inl, inr, arith, refl, sym, ap, get_or-set_same, get_or-set_other}
 use Rattle.std.specs.Prelude.{Option, Some, None, slice_get}
 use Rattle.std.specs.Option.{option_map}
 use Rattle.std.proofs.lemmas.Bool.{cases_eq}
-use Rattle.test_lang.specs.declared.op.Op.{Op}
-use Rattle.test_lang.specs.Program.{Program, nodes, op_at, op_count, passes}
-use Rattle.test_lang.proofs.EdgeTests.{at_node-below}
+use Rattle.test_lang.specs.declared.op.Action.{Action}
+use Rattle.test_lang.specs.Program.{Program, actions, action_at, op_count}
+use Rattle.test_lang.proofs.ActionNodes.{length-actions}
 use Rattle.graph_model.specs.FirstLast.{last_below}
 use Rattle.graph_model.specs.WordLoads.{last_load}
 use Rattle.graph_model.proofs.Near.{last_found}
 
-one_op : (found : Option Op) (x y : Op) → found ≡ Some x → found ≡ Some y → x ≡ y
-one_op found x y e f = let both : Some x ≡ Some y = sym e ∙ f in cc
+one_action : (found : Option Action) (x y : Action) → found ≡ Some x → found ≡ Some y → x ≡ y
+one_action found x y e f = let both : Some x ≡ Some y = sym e ∙ f in cc
 
 -- one more node
-pub loads_more : (p : Program) (n : ℕ) (table : List (Option ℕ)) (found : Option ℕ) (own : Op) → n < length table → op_at p n ≡ Some own → found ≡ last_load p n own →
-    ((k : ℕ) (op : Op) → k < n → op_at p k ≡ Some op → get_or table k None ≡ last_load p k op) →
-    (k : ℕ) (op : Op) → k < n + 1 → op_at p k ≡ Some op → get_or (set table n found) k None ≡ last_load p k op
-loads_more p n table found own lt at told each k op below e = elim (cases_eq k n) [
+pub loads_more : (p : Program) (n : ℕ) (table : List (Option ℕ)) (found : Option ℕ) (own : Action) → n < length table → action_at p n ≡ Some own → found ≡ last_load p n own →
+    ((k : ℕ) (action : Action) → k < n → action_at p k ≡ Some action → get_or table k None ≡ last_load p k action) →
+    (k : ℕ) (action : Action) → k < n + 1 → action_at p k ≡ Some action → get_or (set table n found) k None ≡ last_load p k action
+loads_more p n table found own lt at told each k action below e = elim (cases_eq k n) [
   | inl same ↦
-      let here : op_at p n ≡ Some op = ap (op_at p) (sym same) ∙ e in
+      let here : action_at p n ≡ Some action = ap (action_at p) (sym same) ∙ e in
       ap (λ (j : ℕ). get_or (set table n found) j None) same
       ∙ get_or-set_same table n found None lt
       ∙ told
-      ∙ ap (last_load p n) (one_op (op_at p n) own op at here)
-      ∙ ap (λ (j : ℕ). last_load p j op) (sym same)
-  | inr other ↦ get_or-set_other table n k found None other ∙ each k op (omega (arith, below, other)) e
+      ∙ ap (last_load p n) (one_action (action_at p n) own action at here)
+      ∙ ap (λ (j : ℕ). last_load p j action) (sym same)
+  | inr other ↦ get_or-set_other table n k found None other ∙ each k action (omega (arith, below, other)) e
 ]
 
-has_node : (found : Option (ℕ × Op)) (op : Op) → option_map (λ node. node.1) found ≡ Some op → passes (λ node. true) found ≡ true
-has_node None op e = absurd cc
-has_node (Some x) op e = refl
+action_within : (xs : List (ℕ × Action)) (n : ℕ) (action : Action) → option_map (λ node. node.1) (slice_get xs n) ≡ Some action → n < length xs
+action_within [] n action e = absurd cc
+action_within (x ∷ xs) zero action e = omega arith
+action_within (x ∷ xs) (suc n) action e = let below = action_within xs n action e in omega (arith, below)
 
--- a node with an operation is a node
-pub op_at-below : (p : Program) (n : ℕ) (op : Op) → op_at p n ≡ Some op → n < op_count p
-op_at-below p n op e = at_node-below (λ node. true) p n (has_node (slice_get (nodes p) n) op e)
+-- a node with an action is a node
+pub action_at-below : (p : Program) (n : ℕ) (action : Action) → action_at p n ≡ Some action → n < op_count p
+action_at-below p n action e = let within = action_within (actions p) n action e in let all = length-actions p in omega (arith, within, all)
 
 -- one more than what was found, or 0
 abbrev pub above : Option ℕ → ℕ

@@ -1,10 +1,10 @@
 -- Tables with an entry for each word.
 use Rattle.std.specs.Prelude.{ℕ, List, Option, None, slice_index_or}
-use Rattle.test_lang.specs.declared.op.Op.{Op}
-use Rattle.test_lang.specs.declared.op.Op.TheVariants.{Load, Store, Fence}
+use Rattle.test_lang.specs.declared.op.Action.{Action}
+use Rattle.test_lang.specs.declared.op.Action.TheVariants.{Load, Store, Fence}
 
--- what stands at the word of the operation, if it has one
-abbrev pub at_word : List (Option ℕ) → Op → Option ℕ
+-- what stands at the word of the action, if it has one
+abbrev pub at_word : List (Option ℕ) → Action → Option ℕ
 at_word nodes (Load word) = slice_index_or nodes word None
 at_word nodes (Store word) = slice_index_or nodes word None
-at_word nodes Fence = None
+at_word nodes (Fence kind) = None

@@ -3,7 +3,8 @@ ghost use Rattle.std.specs.Prelude.{◌≡◌, ◌+◌, ◌-◌, ◌*◌, ◌<�
 ghost use Rattle.std.specs.List.{flat_map};
 ghost use Rattle.std.specs.Option.{ForSome};
 ghost use Rattle.orders.specs.Orders.{nodes_below};
-ghost use Rattle.test_lang.specs.Program.{op_count, op_at, HasWord};
+ghost use Rattle.test_lang.specs.Actions.{op_of};
+ghost use Rattle.test_lang.specs.Program.{op_count, action_at, HasWord};
 ghost use Rattle.graph_model.specs.FewKept.{edges_into, edges_onward, few_kept, in_thread, last_of_kind, next_of_kind, with_edges};
 ghost use Rattle.graph_model.specs.NearestNodes.{Tells, last_node, first_passing};
 
@@ -11,7 +12,7 @@ use crate::kinds::{Kind, kinds_after, kinds_before};
 use crate::nearest::Nearest;
 use digraph::Graph;
 use std::alloc::{AllocError, Global};
-use test_lang::op::{MemModel, Op};
+use test_lang::op::{Action, MemModel};
 use test_lang::test::Test;
 
 /// The node that was found, where it is in the thread of the other.
@@ -27,16 +28,22 @@ fn in_thread(test: &Test, node: u32, found: Option<u32>) -> Option<u32>
 }
 
 /// The last node of the kind before a node in its thread. The table tells the last nodes before it in all threads.
-fn last_of_kind(test: &Test, nearest: &Nearest, kind: Kind, node: u32, op: Op) -> Option<u32>
-    requires op { op_at test.now node ≡ Some op }
-    requires word { HasWord test.now op }
+pub(crate) fn last_of_kind(
+    test: &Test,
+    nearest: &Nearest,
+    kind: Kind,
+    node: u32,
+    action: Action,
+) -> Option<u32>
+    requires action { action_at test.now node ≡ Some action }
+    requires word { HasWord test.now (op_of action) }
     requires words { length nearest.now.loads.items ≡ test.now.words }
     requires told { Tells (last_node test.now node) nearest.now }
     requires node { node < op_count test.now }
     ensures last { result ≡ last_of_kind kind test.now node }
     ensures below { IfSome result (λ k. k < op_count test.now) }
 {
-    in_thread(test, node, nearest.of(kind, op))
+    in_thread(test, node, nearest.of(kind, action))
 }
 
 /// The first node of the kind after a node in its thread. The table tells the first nodes after it in all threads.
@@ -45,23 +52,30 @@ pub(crate) fn next_of_kind(
     nearest: &Nearest,
     kind: Kind,
     node: u32,
-    op: Op,
+    action: Action,
 ) -> Option<u32>
-    requires op { op_at test.now node ≡ Some op }
-    requires word { HasWord test.now op }
+    requires action { action_at test.now node ≡ Some action }
+    requires word { HasWord test.now (op_of action) }
     requires words { length nearest.now.loads.items ≡ test.now.words }
     requires told { Tells (first_passing test.now (op_count test.now - suc node)) nearest.now }
     requires node { node < op_count test.now }
     ensures next { result ≡ next_of_kind kind test.now node }
     ensures below { IfSome result (λ k. k < op_count test.now) }
 {
-    in_thread(test, node, nearest.of(kind, op))
+    in_thread(test, node, nearest.of(kind, action))
 }
 
 /// Adds the edges that lead to a node.
-fn add_into(test: &Test, model: MemModel, nearest: &Nearest, node: u32, op: Op, graph: &mut Graph)
-    requires op { op_at test.now node ≡ Some op }
-    requires word { HasWord test.now op }
+fn add_into(
+    test: &Test,
+    model: MemModel,
+    nearest: &Nearest,
+    node: u32,
+    action: Action,
+    graph: &mut Graph,
+)
+    requires action { action_at test.now node ≡ Some action }
+    requires word { HasWord test.now (op_of action) }
     requires words { length nearest.now.loads.items ≡ test.now.words }
     requires told { Tells (last_node test.now node) nearest.now }
     requires node { node < op_count test.now }
@@ -69,18 +83,25 @@ fn add_into(test: &Test, model: MemModel, nearest: &Nearest, node: u32, op: Op, 
     requires room { length graph.old.edges + 3 ≤ graph.old.room }
     ensures { graph.new ≡ with_edges graph.old (edges_into model test.now node) }
 {
-    let kinds = kinds_before(model, op);
+    let kinds = kinds_before(model, action);
     for kind in kinds {
-        if let Some(other) = last_of_kind(test, nearest, *kind, node, op) {
+        if let Some(other) = last_of_kind(test, nearest, *kind, node, action) {
             graph.add(other, node);
         }
     }
 }
 
 /// Adds the edges that lead from a node to later ones.
-fn add_onward(test: &Test, model: MemModel, nearest: &Nearest, node: u32, op: Op, graph: &mut Graph)
-    requires op { op_at test.now node ≡ Some op }
-    requires word { HasWord test.now op }
+fn add_onward(
+    test: &Test,
+    model: MemModel,
+    nearest: &Nearest,
+    node: u32,
+    action: Action,
+    graph: &mut Graph,
+)
+    requires action { action_at test.now node ≡ Some action }
+    requires word { HasWord test.now (op_of action) }
     requires words { length nearest.now.loads.items ≡ test.now.words }
     requires told { Tells (first_passing test.now (op_count test.now - suc node)) nearest.now }
     requires node { node < op_count test.now }
@@ -88,9 +109,9 @@ fn add_onward(test: &Test, model: MemModel, nearest: &Nearest, node: u32, op: Op
     requires room { length graph.old.edges + 1 ≤ graph.old.room }
     ensures { graph.new ≡ with_edges graph.old (edges_onward model test.now node) }
 {
-    let kinds = kinds_after(model, op);
+    let kinds = kinds_after(model, action);
     for kind in kinds {
-        if let Some(other) = next_of_kind(test, nearest, *kind, node, op) {
+        if let Some(other) = next_of_kind(test, nearest, *kind, node, action) {
             graph.add(node, other);
         }
     }
@@ -111,9 +132,9 @@ fn add_all_into(
 {
     let mut nearest = Nearest::new(alloc, test.words())?;
     for node in 0..test.ops() {
-        let op = test.op(node);
-        add_into(test, model, &nearest, node, op, graph);
-        nearest.meet(node, op);
+        let action = test.action(node);
+        add_into(test, model, &nearest, node, action, graph);
+        nearest.meet(node, action);
     }
     Ok(())
 }
@@ -133,9 +154,9 @@ fn add_all_onward(
 {
     let mut nearest = Nearest::new(alloc, test.words())?;
     for node in (0..test.ops()).rev() {
-        let op = test.op(node);
-        add_onward(test, model, &nearest, node, op, graph);
-        nearest.meet(node, op);
+        let action = test.action(node);
+        add_onward(test, model, &nearest, node, action, graph);
+        nearest.meet(node, action);
     }
     Ok(())
 }

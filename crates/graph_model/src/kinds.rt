@@ -1,46 +1,88 @@
-//! Kinds of operations, and which of them the few edges in place of all kept pairs lead from and to.
+//! Kinds of actions, and which of them the few edges in place of all kept pairs lead from and to.
 ghost use Rattle.std.specs.Prelude.{◌≡◌};
 ghost use Rattle.graph_model.specs.FewKept.{kinds_before, kinds_after};
 
-use test_lang::op::{MemModel, Op};
+use test_lang::op::{Action, FenceKind, MemModel};
 
-/// A kind of operations, as seen from an operation.
+/// A kind of actions, as seen from an action.
 #[derive(Clone, Copy, Debug)]
 pub(crate) enum Kind {
     Any,
-    LoadOrFence,
-    AnyStore,
-    AnyFence,
+    /// Neither a store nor a store fence.
+    NotStoreLike,
+    /// A store or a store fence.
+    StoreLike,
+    AnyStoreFence,
+    /// A store fence or a full fence.
+    StoreBarrier,
+    /// A load fence or a full fence.
+    LoadBarrier,
     /// A load of its word.
     LoadOfWord,
     /// A store to its word.
     StoreOfWord,
 }
 
-/// The kinds from whose last operation in the thread an edge leads to the operation.
+/// The kinds from whose last action in the thread an edge leads to the action.
 ///
-/// Of two operations of one of these kinds the first is kept before the second, and before the operation. So the last one stands for all.
-pub(crate) fn kinds_before(model: MemModel, op: Op) -> &'static [Kind]
-    ensures { result.now ≡ kinds_before model op }
+/// Of two actions of one of these kinds the first is kept before the second, and before the action, or an edge leads from it to a fence between
+/// them. So the last one stands for all.
+pub(crate) fn kinds_before(model: MemModel, action: Action) -> &'static [Kind]
+    ensures { result.now ≡ kinds_before model action }
 {
-    match (model, op) {
+    match (model, action) {
         (MemModel::Sc, _) => &[Kind::Any],
-        (MemModel::Tso, Op::Load { .. }) => &[Kind::LoadOrFence],
-        (MemModel::Tso, _) => &[Kind::LoadOrFence, Kind::AnyStore],
-        (MemModel::Weak, Op::Load { .. }) => &[Kind::LoadOfWord, Kind::AnyFence],
-        (MemModel::Weak, Op::Store { .. }) => {
-            &[Kind::LoadOfWord, Kind::StoreOfWord, Kind::AnyFence]
+        (
+            MemModel::Tso,
+            Action::Load { .. }
+            | Action::Fence {
+                kind: FenceKind::Load,
+            },
+        ) => &[Kind::NotStoreLike],
+        (MemModel::Tso, _) => &[Kind::NotStoreLike, Kind::StoreLike],
+        (MemModel::Pso, Action::Store { .. }) => {
+            &[Kind::NotStoreLike, Kind::StoreOfWord, Kind::AnyStoreFence]
         }
-        (MemModel::Weak, Op::Fence) => &[Kind::AnyFence],
+        (MemModel::Pso, _) => &[Kind::NotStoreLike],
+        (MemModel::Weak, Action::Load { .. }) => &[Kind::LoadOfWord, Kind::LoadBarrier],
+        (MemModel::Weak, Action::Store { .. }) => {
+            &[Kind::LoadOfWord, Kind::StoreOfWord, Kind::StoreBarrier]
+        }
+        (
+            MemModel::Weak,
+            Action::Fence {
+                kind: FenceKind::Full,
+            },
+        ) => &[Kind::LoadBarrier, Kind::StoreBarrier],
+        (
+            MemModel::Weak,
+            Action::Fence {
+                kind: FenceKind::Store,
+            },
+        ) => &[Kind::StoreBarrier],
+        (
+            MemModel::Weak,
+            Action::Fence {
+                kind: FenceKind::Load,
+            },
+        ) => &[Kind::LoadBarrier],
     }
 }
 
-/// The kinds to whose next operation in the thread an edge leads from the operation.
-pub(crate) fn kinds_after(model: MemModel, op: Op) -> &'static [Kind]
-    ensures { result.now ≡ kinds_after model op }
+/// The kinds to whose next action in the thread an edge leads from the action.
+pub(crate) fn kinds_after(model: MemModel, action: Action) -> &'static [Kind]
+    ensures { result.now ≡ kinds_after model action }
 {
-    match (model, op) {
-        (MemModel::Weak, Op::Load { .. } | Op::Store { .. }) => &[Kind::AnyFence],
+    match (model, action) {
+        (
+            MemModel::Pso,
+            Action::Store { .. }
+            | Action::Fence {
+                kind: FenceKind::Store,
+            },
+        ) => &[Kind::StoreBarrier],
+        (MemModel::Weak, Action::Load { .. }) => &[Kind::LoadBarrier],
+        (MemModel::Weak, Action::Store { .. }) => &[Kind::StoreBarrier],
         _ => &[],
     }
 }

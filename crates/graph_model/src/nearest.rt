@@ -1,19 +1,22 @@
 //! The node of each kind that was met last, on a way through the nodes in either direction.
 ghost use Rattle.std.specs.Prelude.{◌≡◌, length};
+ghost use Rattle.test_lang.specs.Actions.{op_of};
 ghost use Rattle.test_lang.specs.Program.{HasWordBelow};
 ghost use Rattle.graph_model.specs.WordTables.{at_word};
 
 use crate::kinds::Kind;
 use std::alloc::{AllocError, Global};
-use test_lang::op::Op;
+use test_lang::op::{Action, FenceKind};
 
 /// The node of each kind that was met last.
 #[derive(Drop)]
 pub(crate) struct Nearest {
     any: Option<u32>,
-    load_or_fence: Option<u32>,
-    store: Option<u32>,
-    fence: Option<u32>,
+    not_store_like: Option<u32>,
+    store_like: Option<u32>,
+    store_fence: Option<u32>,
+    store_barrier: Option<u32>,
+    load_barrier: Option<u32>,
     /// The loads of each word, and the stores to it.
     loads: Vec<Option<u32>>,
     stores: Vec<Option<u32>>,
@@ -22,7 +25,8 @@ pub(crate) struct Nearest {
 
 impl Nearest {
     ghost use Rattle.std.specs.Prelude.{◌≡◌, ◌<◌, ℕ, Bool, Option, None, OnOk, IfOk, length};
-    ghost use Rattle.test_lang.specs.declared.op.Op.{Op};
+    ghost use Rattle.test_lang.specs.declared.op.Action.{Action};
+    ghost use Rattle.test_lang.specs.Actions.{op_of};
     ghost use Rattle.graph_model.specs.FewKept.{is_kind};
     ghost use Rattle.graph_model.specs.NearestNodes.{Tells, with_node};
 
@@ -33,62 +37,82 @@ impl Nearest {
     {
         Ok(Nearest {
             any: None,
-            load_or_fence: None,
-            store: None,
-            fence: None,
+            not_store_like: None,
+            store_like: None,
+            store_fence: None,
+            store_barrier: None,
+            load_barrier: None,
             loads: vec![in alloc; None; words as usize]?,
             stores: vec![in alloc; None; words as usize]?,
         })
     }
 
-    /// Meets a node with this operation.
-    pub fn meet(&mut self, node: u32, op: Op)
-        requires { HasWordBelow (length self.old.loads.items) op }
+    /// Meets a node with this action.
+    pub fn meet(&mut self, node: u32, action: Action)
+        requires { HasWordBelow (length self.old.loads.items) (op_of action) }
         ensures room { length self.new.loads.items ≡ length self.old.loads.items }
-        ensures told { (f : (Op → Bool) → Option ℕ) →
-            Tells f self.old → Tells (with_node f node op) self.new }
+        ensures told { (f : (Action → Bool) → Option ℕ) →
+            Tells f self.old → Tells (with_node f node action) self.new }
     {
         self.any = Some(node);
-        match op {
-            Op::Load { word } => {
-                self.load_or_fence = Some(node);
+        match action {
+            Action::Load { word } => {
+                self.not_store_like = Some(node);
                 self.loads[word as usize] = Some(node);
             }
-            Op::Store { word } => {
-                self.store = Some(node);
+            Action::Store { word } => {
+                self.store_like = Some(node);
                 self.stores[word as usize] = Some(node);
             }
-            Op::Fence => {
-                self.load_or_fence = Some(node);
-                self.fence = Some(node);
+            Action::Fence {
+                kind: FenceKind::Full,
+            } => {
+                self.not_store_like = Some(node);
+                self.store_barrier = Some(node);
+                self.load_barrier = Some(node);
+            }
+            Action::Fence {
+                kind: FenceKind::Store,
+            } => {
+                self.store_like = Some(node);
+                self.store_fence = Some(node);
+                self.store_barrier = Some(node);
+            }
+            Action::Fence {
+                kind: FenceKind::Load,
+            } => {
+                self.not_store_like = Some(node);
+                self.load_barrier = Some(node);
             }
         }
     }
 
-    /// The node of the kind, as seen from the operation, that was met last.
-    pub fn of(&self, kind: Kind, op: Op) -> Option<u32>
-        requires { HasWordBelow (length self.now.loads.items) op }
-        ensures { (f : (Op → Bool) → Option ℕ) → Tells f self.now → result ≡ f (is_kind kind op) }
+    /// The node of the kind, as seen from the action, that was met last.
+    pub fn of(&self, kind: Kind, action: Action) -> Option<u32>
+        requires { HasWordBelow (length self.now.loads.items) (op_of action) }
+        ensures { (f : (Action → Bool) → Option ℕ) → Tells f self.now → result ≡ f (is_kind kind action) }
     {
         match kind {
             Kind::Any => self.any,
-            Kind::LoadOrFence => self.load_or_fence,
-            Kind::AnyStore => self.store,
-            Kind::AnyFence => self.fence,
-            Kind::LoadOfWord => at_word(&self.loads, op),
-            Kind::StoreOfWord => at_word(&self.stores, op),
+            Kind::NotStoreLike => self.not_store_like,
+            Kind::StoreLike => self.store_like,
+            Kind::AnyStoreFence => self.store_fence,
+            Kind::StoreBarrier => self.store_barrier,
+            Kind::LoadBarrier => self.load_barrier,
+            Kind::LoadOfWord => at_word(&self.loads, action),
+            Kind::StoreOfWord => at_word(&self.stores, action),
         }
     }
 }
 
-/// What stands at the operation's word, if it has one.
-fn at_word(nodes: &[Option<u32>], op: Op) -> Option<u32>
-    requires { HasWordBelow (length nodes.now) op }
-    ensures { result ≡ at_word nodes.now op }
+/// What stands at the action's word, if it has one.
+fn at_word(nodes: &[Option<u32>], action: Action) -> Option<u32>
+    requires { HasWordBelow (length nodes.now) (op_of action) }
+    ensures { result ≡ at_word nodes.now action }
 {
-    match op {
-        Op::Load { word } => nodes[word as usize],
-        Op::Store { word } => nodes[word as usize],
-        Op::Fence => None,
+    match action {
+        Action::Load { word } => nodes[word as usize],
+        Action::Store { word } => nodes[word as usize],
+        Action::Fence { .. } => None,
     }
 }

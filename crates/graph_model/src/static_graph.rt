@@ -5,7 +5,7 @@ ghost use Rattle.graph_model.specs.StaticGraph.{IsStaticGraph};
 
 use crate::few_kept::kept_graph;
 use crate::first_stores::FirstStores;
-use crate::store_tables::next_stores;
+use crate::store_tables::{base_stores, next_stores};
 use crate::word_loads::WordLoads;
 use digraph::Graph;
 use std::alloc::{AllocError, Global};
@@ -31,6 +31,8 @@ pub struct Static {
     graph: Graph,
     /// For each node, the first store after it in its thread to its word.
     next_stores: Vec<Option<u32>>,
+    /// For each node, the last store before it in its thread to its word.
+    base_stores: Vec<Option<u32>>,
     first_stores: FirstStores,
     loads: WordLoads,
 }
@@ -45,7 +47,7 @@ impl Model for Static {
 
     ghost view = { λ s. record { test = s.test; model = s.model; graph = s.graph } };
 
-    ghost invariant = { λ s. IsTabled (record { test = s.test; model = s.model; graph = s.graph }) s.next_stores.items s.first_stores s.loads };
+    ghost invariant = { λ s. IsTabled (record { test = s.test; model = s.model; graph = s.graph }) s.next_stores.items s.base_stores.items s.first_stores s.loads };
 }
 
 impl Static {
@@ -60,6 +62,7 @@ impl Static {
             model,
             graph: kept_graph(alloc, test, model)?,
             next_stores: next_stores(alloc, test)?,
+            base_stores: base_stores(alloc, test)?,
             first_stores: FirstStores::of(alloc, test)?,
             loads: WordLoads::of(alloc, test)?,
         })

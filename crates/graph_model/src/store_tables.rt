@@ -1,10 +1,10 @@
-//! Tables of the stores that follow others, and of the first stores.
+//! Tables of the stores that follow others or come before them, and of the first stores.
 ghost use Rattle.std.specs.Prelude.{◌≡◌, ℕ, ◌+◌, ◌*◌, ◌<◌, length, slice_index_or, Some, None, IfOk, if◌then◌else◌};
 ghost use Rattle.std.specs.Option.{option_or};
 ghost use Rattle.test_lang.specs.Program.{op_count};
-ghost use Rattle.graph_model.specs.StoreTables.{HasFirstStores, HasNextStores, is_thread_store};
+ghost use Rattle.graph_model.specs.StoreTables.{HasBaseStores, HasFirstStores, HasNextStores, is_thread_store};
 
-use crate::few_kept::next_of_kind;
+use crate::few_kept::{last_of_kind, next_of_kind};
 use crate::kinds::Kind;
 use crate::nearest::Nearest;
 use std::alloc::{AllocError, Global};
@@ -18,9 +18,23 @@ pub(crate) fn next_stores(alloc: Global, test: &Test) -> Result<Vec<Option<u32>>
     let mut table = vec![in alloc; None; test.ops() as usize]?;
     let mut nearest = Nearest::new(alloc, test.words())?;
     for node in (0..test.ops()).rev() {
-        let op = test.op(node);
-        table[node as usize] = next_of_kind(test, &nearest, Kind::StoreOfWord, node, op);
-        nearest.meet(node, op);
+        let action = test.action(node);
+        table[node as usize] = next_of_kind(test, &nearest, Kind::StoreOfWord, node, action);
+        nearest.meet(node, action);
+    }
+    Ok(table)
+}
+
+/// For each node, the last store before it in its thread to its word: for a load, its base store.
+pub(crate) fn base_stores(alloc: Global, test: &Test) -> Result<Vec<Option<u32>>, AllocError>
+    ensures { IfOk result (λ table. HasBaseStores test.now table.items) }
+{
+    let mut table = vec![in alloc; None; test.ops() as usize]?;
+    let mut nearest = Nearest::new(alloc, test.words())?;
+    for node in 0..test.ops() {
+        let action = test.action(node);
+        table[node as usize] = last_of_kind(test, &nearest, Kind::StoreOfWord, node, action);
+        nearest.meet(node, action);
     }
     Ok(table)
 }

@@ -1,8 +1,9 @@
 //! Kept pairs and edges of worked tests and runs, all of them and the few. What makes the calls answers whether they agree, so that the tests carry no clauses of theirs.
 ghost use Rattle.std.specs.Prelude.{◌≡◌, ◌<◌, ◌≤◌, ◌+◌, [], ◌∷◌, length, take, IfOk};
-ghost use Rattle.test_lang.specs.Litmus.{store_buffering, two_stores_two_loads, message_passing_fences};
+ghost use Rattle.test_lang.specs.Litmus.{own_stores_and_other, store_buffering, store_load_each, two_stores_two_loads, message_passing_fences, message_passing_partial_fences};
 ghost use Rattle.test_lang.specs.Runs.{IsInside};
 ghost use Rattle.test_lang.specs.Values.{load_count};
+ghost use Rattle.graph_model.specs.LoadEdges.{load_edge_room};
 ghost use Rattle.graph_model.specs.StaticGraph.{run_edge_room};
 
 use crate::{Full, Static, edge, kept};
@@ -11,7 +12,7 @@ use std::alloc::{AllocError, Global};
 use std::marker::Brand;
 use std::sync::ledger::{Blank, Ledger};
 use std::test::Fail;
-use test_lang::op::{MemModel, Op};
+use test_lang::op::{Action, FenceKind, MemModel, Op};
 use test_lang::test::Test;
 use test_lang::text::fault::TestFault;
 
@@ -62,9 +63,10 @@ fn buffering(alloc: Global) -> Result<Test, AllocError>
     Ok(test)
 }
 
-const BUFFERING_KEEPS: [(MemModel, Pairs); 3] = [
+const BUFFERING_KEEPS: [(MemModel, Pairs); 4] = [
     (MemModel::Sc, &[(0, 1), (2, 3)]),
     (MemModel::Tso, &[]),
+    (MemModel::Pso, &[]),
     (MemModel::Weak, &[]),
 ];
 
@@ -92,9 +94,10 @@ fn stores_against_loads(alloc: Global) -> Result<Test, AllocError>
     Ok(test)
 }
 
-const STORES_AND_LOADS_KEEP: [(MemModel, Pairs); 3] = [
+const STORES_AND_LOADS_KEEP: [(MemModel, Pairs); 4] = [
     (MemModel::Sc, &[(0, 1), (2, 3)]),
     (MemModel::Tso, &[(0, 1), (2, 3)]),
+    (MemModel::Pso, &[(0, 1), (2, 3)]),
     (MemModel::Weak, &[(0, 1), (2, 3)]),
 ];
 
@@ -136,7 +139,7 @@ fn passing_behind_fences(alloc: Global) -> Result<Test, AllocError>
     Ok(test)
 }
 
-const FENCES_KEEP: [(MemModel, Pairs); 3] = [
+const FENCES_KEEP: [(MemModel, Pairs); 4] = [
     (
         MemModel::Sc,
         &[(0, 1), (0, 2), (1, 2), (3, 4), (3, 5), (4, 5)],
@@ -145,22 +148,103 @@ const FENCES_KEEP: [(MemModel, Pairs); 3] = [
         MemModel::Tso,
         &[(0, 1), (0, 2), (1, 2), (3, 4), (3, 5), (4, 5)],
     ),
+    (MemModel::Pso, &[(0, 1), (1, 2), (3, 4), (3, 5), (4, 5)]),
     (MemModel::Weak, &[(0, 1), (1, 2), (3, 4), (4, 5)]),
 ];
+
+/// Two stores with a store fence between them, and two loads with a load fence between them. Each model keeps what it keeps with full fences.
+fn passing_behind_partial_fences(alloc: Global) -> Result<Test, AllocError>
+    ensures { IfOk result (λ t. t ≡ message_passing_partial_fences) }
+{
+    let mut test = Test::new_version(alloc, 2, 2);
+    test.add_thread()?;
+    test.add_op(Op::Store { word: 0 })?;
+    test.add_fence(FenceKind::Store)?;
+    test.add_op(Op::Store { word: 1 })?;
+    test.add_thread()?;
+    test.add_op(Op::Load { word: 1 })?;
+    test.add_fence(FenceKind::Load)?;
+    test.add_op(Op::Load { word: 0 })?;
+    Ok(test)
+}
 
 #[test]
 fn fences_are_kept(rt: HostRuntime) -> Result<(), Fail> {
     let test = passing_behind_fences(rt.alloc())?;
     assert!(rt; all_agree(&test, &FENCES_KEEP, &[2, 0], &[(2, 3), (5, 0)]));
+    let test = passing_behind_partial_fences(rt.alloc())?;
+    assert!(rt; all_agree(&test, &FENCES_KEEP, &[2, 0], &[(2, 3), (5, 0)]));
+    Ok(())
+}
+
+/// Each of two threads stores to the one word and then loads it.
+fn stores_and_loads(alloc: Global) -> Result<Test, AllocError>
+    ensures { IfOk result (λ t. t ≡ store_load_each) }
+{
+    let mut test = Test::new(alloc, 1);
+    test.add_thread()?;
+    test.add_op(Op::Store { word: 0 })?;
+    test.add_op(Op::Load { word: 0 })?;
+    test.add_thread()?;
+    test.add_op(Op::Store { word: 0 })?;
+    test.add_op(Op::Load { word: 0 })?;
+    Ok(test)
+}
+
+const STORE_LOAD_EACH_KEEPS: [(MemModel, Pairs); 4] = [
+    (MemModel::Sc, &[(0, 1), (2, 3)]),
+    (MemModel::Tso, &[]),
+    (MemModel::Pso, &[]),
+    (MemModel::Weak, &[]),
+];
+
+/// A load that gives the other thread's store tells that its own thread's store came before that one; a load that gives its own store tells nothing.
+#[test]
+fn own_stores_come_before_stores_that_are_read(rt: HostRuntime) -> Result<(), Fail> {
+    let test = stores_and_loads(rt.alloc())?;
+    assert!(rt;
+        all_agree(
+            &test,
+            &STORE_LOAD_EACH_KEEPS,
+            &[2, 1],
+            &[(2, 1), (0, 3), (0, 2), (2, 0)]
+        )
+    );
+    assert!(rt; all_agree(&test, &STORE_LOAD_EACH_KEEPS, &[2, 2], &[(2, 1), (0, 2)]));
+    assert!(rt; all_agree(&test, &STORE_LOAD_EACH_KEEPS, &[1, 2], &[]));
+    Ok(())
+}
+
+/// A load behind two stores of its own thread, and a store of another.
+fn last_own_store(alloc: Global) -> Result<Test, AllocError>
+    ensures { IfOk result (λ t. t ≡ own_stores_and_other) }
+{
+    let mut test = Test::new(alloc, 1);
+    test.add_thread()?;
+    test.add_op(Op::Store { word: 0 })?;
+    test.add_op(Op::Store { word: 0 })?;
+    test.add_op(Op::Load { word: 0 })?;
+    test.add_thread()?;
+    test.add_op(Op::Store { word: 0 })?;
+    Ok(test)
+}
+
+const LAST_OWN_STORE_KEEPS: [(MemModel, Pairs); 1] = [(MemModel::Weak, &[(0, 1)])];
+
+#[test]
+fn last_own_store_comes_before(rt: HostRuntime) -> Result<(), Fail> {
+    let test = last_own_store(rt.alloc())?;
+    assert!(rt; all_agree(&test, &LAST_OWN_STORE_KEEPS, &[3], &[(3, 2), (1, 3)]));
     Ok(())
 }
 
 /// Each thread stores to a word, and loads this word and then the other.
 fn loads_behind_own_stores(alloc: Global) -> Result<Test, AllocError>
     ensures { IfOk result (λ t. t ≡ record {
+      version = 1;
       words = 2;
-      threads =
-          (Op.Store 0 ∷ Op.Load 0 ∷ Op.Load 1 ∷ []) ∷ (Op.Store 1 ∷ Op.Load 1 ∷ Op.Load 0 ∷ []) ∷ [];
+      threads = (Action.Store 0 ∷ Action.Load 0 ∷ Action.Load 1 ∷ [])
+          ∷ (Action.Store 1 ∷ Action.Load 1 ∷ Action.Load 0 ∷ []) ∷ [];
     }) }
 {
     let mut test = Test::new(alloc, 2);
@@ -175,12 +259,13 @@ fn loads_behind_own_stores(alloc: Global) -> Result<Test, AllocError>
     Ok(test)
 }
 
-const OWN_STORES_KEEP: [(MemModel, Pairs); 3] = [
+const OWN_STORES_KEEP: [(MemModel, Pairs); 4] = [
     (
         MemModel::Sc,
         &[(0, 1), (0, 2), (1, 2), (3, 4), (3, 5), (4, 5)],
     ),
     (MemModel::Tso, &[(1, 2), (4, 5)]),
+    (MemModel::Pso, &[(1, 2), (4, 5)]),
     (MemModel::Weak, &[]),
 ];
 
@@ -196,7 +281,7 @@ fn tso_lets_loads_pass_own_stores_of_their_word(rt: HostRuntime) -> Result<(), F
 fn dynamic_counted<L: Ledger>(fixed: &Static, run: &[u32], rank: u32, out: &mut Edges, blank: Blank)
     requires inside { IsInside fixed.now.test run.now }
     requires rank { rank < load_count fixed.now.test }
-    requires room { 2 + length fixed.now.test.threads ≤ out.old.room }
+    requires room { load_edge_room fixed.now.test ≤ out.old.room }
     requires name { blank.name ≡ L.name }
     requires parts { blank.parts ≡ L.parts }
     requires some { 0 < blank.parts }
@@ -209,7 +294,7 @@ fn dynamic(alloc: Global, fixed: &Static, run: &[u32], rank: u32) -> Result<Edge
     requires inside { IsInside fixed.now.test run.now }
     requires rank { rank < load_count fixed.now.test }
 {
-    let mut out = Edges::with_room(alloc, 2 + fixed.threads())?;
+    let mut out = Edges::with_room(alloc, fixed.load_edge_room())?;
     dynamic_counted::<Brand>(fixed, run, rank, &mut out, Blank::new(1));
     Ok(out)
 }
@@ -234,9 +319,10 @@ fn loads_agree(alloc: Global, test: &Test, run: &[u32], want: &[Pairs]) -> Resul
 /// Three threads, of which two store to the word that the other one loads.
 fn stores_on_both_sides(alloc: Global) -> Result<Test, AllocError>
     ensures { IfOk result (λ t. t ≡ record {
+      version = 1;
       words = 1;
-      threads =
-          (Op.Store 0 ∷ Op.Store 0 ∷ []) ∷ (Op.Load 0 ∷ []) ∷ (Op.Store 0 ∷ []) ∷ [];
+      threads = (Action.Store 0 ∷ Action.Store 0 ∷ []) ∷ (Action.Load 0 ∷ [])
+          ∷ (Action.Store 0 ∷ []) ∷ [];
     }) }
 {
     let mut test = Test::new(alloc, 1);
@@ -270,6 +356,16 @@ fn loads_behind_own_stores_agree(alloc: Global) -> Result<bool, AllocError> {
     )
 }
 
+fn stores_and_loads_agree(alloc: Global) -> Result<bool, AllocError> {
+    let test = stores_and_loads(alloc)?;
+    loads_agree(
+        alloc,
+        &test,
+        &[2, 1],
+        &[&[(2, 1), (0, 2)], &[(0, 3), (2, 0)]],
+    )
+}
+
 fn stores_on_both_sides_agree(alloc: Global) -> Result<bool, AllocError> {
     let test = stores_on_both_sides(alloc)?;
     loads_agree(alloc, &test, &[0], &[&[(2, 0), (2, 3)]])
@@ -280,6 +376,7 @@ fn few_edges_of_loads(rt: HostRuntime) -> Result<(), Fail> {
     assert!(rt; buffering_agrees(rt.alloc())?);
     assert!(rt; stores_against_loads_agree(rt.alloc())?);
     assert!(rt; loads_behind_own_stores_agree(rt.alloc())?);
+    assert!(rt; stores_and_loads_agree(rt.alloc())?);
     assert!(rt; stores_on_both_sides_agree(rt.alloc())?);
     Ok(())
 }
@@ -422,7 +519,7 @@ fn read_test(alloc: Global, text: &[u8]) -> Result<Test, TestFault> {
 }
 
 /// The few pairs that each model keeps of it.
-const MIXED_ROWS: [(MemModel, Pairs); 3] = [
+const MIXED_ROWS: [(MemModel, Pairs); 4] = [
     (
         MemModel::Sc,
         &[
@@ -453,6 +550,22 @@ const MIXED_ROWS: [(MemModel, Pairs); 3] = [
         ],
     ),
     (
+        MemModel::Pso,
+        &[
+            (1, 2),
+            (0, 2),
+            (1, 3),
+            (3, 4),
+            (4, 5),
+            (5, 6),
+            (7, 8),
+            (7, 9),
+            (8, 9),
+            (2, 4),
+            (0, 4),
+        ],
+    ),
+    (
         MemModel::Weak,
         &[
             (1, 2),
@@ -472,13 +585,124 @@ const MIXED_ROWS: [(MemModel, Pairs); 3] = [
     ),
 ];
 
+/// The same with fences of all kinds.
+const MIXED_FENCES: &[u8] =
+    b"mtest 2\nwords 2\nthread\nst 0\nfence st\nst 1\nld 0\nfence ld\nst 0\nfence\nld 1\nfence st\nst 1\nthread\nld 0\nfence ld\nld 1\nst 1\nst 0\nfence st\nend\n";
+
+const MIXED_FENCES_ROWS: [(MemModel, Pairs); 4] = [
+    (
+        MemModel::Sc,
+        &[
+            (0, 1),
+            (1, 2),
+            (2, 3),
+            (3, 4),
+            (4, 5),
+            (5, 6),
+            (6, 7),
+            (7, 8),
+            (8, 9),
+            (10, 11),
+            (11, 12),
+            (12, 13),
+            (13, 14),
+            (14, 15),
+        ],
+    ),
+    (
+        MemModel::Tso,
+        &[
+            (0, 1),
+            (1, 2),
+            (3, 4),
+            (4, 5),
+            (2, 5),
+            (4, 6),
+            (5, 6),
+            (6, 7),
+            (7, 8),
+            (5, 8),
+            (7, 9),
+            (8, 9),
+            (10, 11),
+            (11, 12),
+            (12, 13),
+            (12, 14),
+            (13, 14),
+            (12, 15),
+            (14, 15),
+        ],
+    ),
+    (
+        MemModel::Pso,
+        &[
+            (1, 2),
+            (3, 4),
+            (4, 5),
+            (0, 5),
+            (1, 5),
+            (4, 6),
+            (6, 7),
+            (7, 8),
+            (7, 9),
+            (2, 9),
+            (8, 9),
+            (10, 11),
+            (11, 12),
+            (12, 13),
+            (12, 14),
+            (12, 15),
+            (14, 15),
+            (13, 15),
+            (5, 6),
+            (2, 6),
+            (1, 6),
+            (0, 1),
+        ],
+    ),
+    (
+        MemModel::Weak,
+        &[
+            (1, 2),
+            (3, 5),
+            (0, 5),
+            (1, 5),
+            (4, 6),
+            (1, 6),
+            (6, 7),
+            (6, 8),
+            (7, 9),
+            (2, 9),
+            (8, 9),
+            (11, 12),
+            (12, 13),
+            (10, 14),
+            (14, 15),
+            (13, 15),
+            (10, 11),
+            (5, 6),
+            (3, 4),
+            (2, 6),
+            (0, 1),
+        ],
+    ),
+];
+
+/// Whether each model keeps exactly these few pairs of the test that a text has.
+fn few_agree(alloc: Global, text: &[u8], rows: &[(MemModel, Pairs)]) -> Result<bool, TestFault> {
+    let test = read_test(alloc, text)?;
+    for (model, want) in rows {
+        let fixed = Static::of(alloc, &test, *model)?;
+        if edges_of(alloc, fixed.graph())?.as_slice() != *want {
+            return Ok(false);
+        }
+    }
+    Ok(true)
+}
+
 #[test]
 fn few_kept_pairs(rt: HostRuntime) -> Result<(), Fail> {
-    let test = read_test(rt.alloc(), MIXED)?;
-    for (model, want) in &MIXED_ROWS {
-        let fixed = Static::of(rt.alloc(), &test, *model)?;
-        let edges = edges_of(rt.alloc(), fixed.graph())?;
-        assert!(rt; edges.as_slice() == *want);
-    }
+    assert!(rt; few_agree(rt.alloc(), MIXED, &MIXED_ROWS)?);
+    assert!(rt; few_agree(rt.alloc(), MIXED_FENCES, &MIXED_FENCES_ROWS)?);
     Ok(())
 }

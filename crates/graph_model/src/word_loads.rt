@@ -25,9 +25,9 @@ impl WordLoads {
         let mut before = vec![in alloc; None; test.ops() as usize]?;
         let mut last = Nearest::new(alloc, test.words())?;
         for node in 0..test.ops() {
-            let op = test.op(node);
-            before[node as usize] = last.of(Kind::LoadOfWord, op);
-            last.meet(node, op);
+            let action = test.action(node);
+            before[node as usize] = last.of(Kind::LoadOfWord, action);
+            last.meet(node, action);
         }
         Ok(WordLoads { last, before })
     }

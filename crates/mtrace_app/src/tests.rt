@@ -14,6 +14,17 @@ const MESSAGE_PASSING: &str = "mtest 1\nwords 2\nthread\nst 0\nst 1\nthread\nld 
 const MESSAGE_PASSING_FENCES: &str =
     "mtest 1\nwords 2\nthread\nst 0\nfence\nst 1\nthread\nld 1\nfence\nld 0\nend\n";
 
+/// The same with a store fence between the stores and a load fence between the loads.
+const MESSAGE_PASSING_PARTIAL_FENCES: &str =
+    "mtest 2\nwords 2\nthread\nst 0\nfence st\nst 1\nthread\nld 1\nfence ld\nld 0\nend\n";
+
+/// Store buffering with a store fence in each thread.
+const STORE_BUFFERING_STORE_FENCES: &str =
+    "mtest 2\nwords 2\nthread\nst 0\nfence st\nld 1\nthread\nst 1\nfence st\nld 0\nend\n";
+
+/// Each of two threads stores to the one word and then loads it.
+const STORE_LOAD_EACH: &str = "mtest 1\nwords 1\nthread\nst 0\nld 0\nthread\nst 0\nld 0\nend\n";
+
 const OWN_STORES: &str = "mtest 1\nwords 1\nthread\nst 0\nst 0\nld 0\nend\n";
 
 const STORES_AGAINST_LOADS: &str =
@@ -183,13 +194,17 @@ const SC: &[&str] = &["sc"];
 
 const TSO: &[&str] = &["tso"];
 
+const PSO: &[&str] = &["pso"];
+
 const WEAK: &[&str] = &["weak"];
+
+const RELAXED: &[&str] = &["tso", "pso", "weak"];
 
 const STRONG: &[&str] = &["sc", "tso"];
 
-const ALL: &[&str] = &["sc", "tso", "weak"];
+const ALL: &[&str] = &["sc", "tso", "pso", "weak"];
 
-const ROWS: [Row<'static>; 19] = [
+const ROWS: [Row<'static>; 26] = [
     // Store buffering: both loads give the initial value.
     Row {
         models: SC,
@@ -263,6 +278,66 @@ const ROWS: [Row<'static>; 19] = [
         runs: "run 2 0\ndone\n",
         count: 1,
         lines: "sig 0000000000000001 count 1 cycle 0 1 2 3 4 5\n",
+        sums: [0, 1, 0],
+    },
+    // Under `pso` the stores need their fence, and the loads don't.
+    Row {
+        models: PSO,
+        test: MESSAGE_PASSING,
+        runs: "run 2 0\ndone\n",
+        count: 1,
+        lines: "sig 0000000000000001 count 1 ok\n",
+        sums: [1, 0, 0],
+    },
+    Row {
+        models: PSO,
+        test: MESSAGE_PASSING_FENCES,
+        runs: "run 2 0\ndone\n",
+        count: 1,
+        lines: "sig 0000000000000001 count 1 cycle 0 1 2 3 5\n",
+        sums: [0, 1, 0],
+    },
+    // Store fences and load fences do as well.
+    Row {
+        models: STRONG,
+        test: MESSAGE_PASSING_PARTIAL_FENCES,
+        runs: "run 2 0\ndone\n",
+        count: 1,
+        lines: "sig 0000000000000001 count 1 cycle 0 2 3 5\n",
+        sums: [0, 1, 0],
+    },
+    Row {
+        models: PSO,
+        test: MESSAGE_PASSING_PARTIAL_FENCES,
+        runs: "run 2 0\ndone\n",
+        count: 1,
+        lines: "sig 0000000000000001 count 1 cycle 0 1 2 3 5\n",
+        sums: [0, 1, 0],
+    },
+    Row {
+        models: WEAK,
+        test: MESSAGE_PASSING_PARTIAL_FENCES,
+        runs: "run 2 0\ndone\n",
+        count: 1,
+        lines: "sig 0000000000000001 count 1 cycle 0 1 2 3 4 5\n",
+        sums: [0, 1, 0],
+    },
+    // A load doesn't wait for a store fence.
+    Row {
+        models: RELAXED,
+        test: STORE_BUFFERING_STORE_FENCES,
+        runs: "run 0 0\ndone\n",
+        count: 1,
+        lines: "sig 0000000000000000.0000000000000000 count 1 ok\n",
+        sums: [1, 0, 0],
+    },
+    // Each load gives the other thread's store over its own, so each store came before the other.
+    Row {
+        models: ALL,
+        test: STORE_LOAD_EACH,
+        runs: "run 2 1\ndone\n",
+        count: 1,
+        lines: "sig 0000000000000001.0000000000000001 count 1 cycle 0 2\n",
         sums: [0, 1, 0],
     },
     // Two loads see two stores of another thread in the other order.
@@ -366,6 +441,7 @@ fn words_for(model: &str) -> &'static str {
     match model {
         "sc" => "check --chunk 1",
         "tso" => "check --chunk=1 --model=tso",
+        "pso" => "check --model pso --chunk=1",
         _ => "check --model weak --chunk 1",
     }
 }
@@ -548,9 +624,9 @@ fn limit_on_values(rt: HostRuntime) -> Result<(), Fail> {
     Ok(())
 }
 
-const REFUSED_TESTS: [(&str, &str); 8] = [
+const REFUSED_TESTS: [(&str, &str); 10] = [
     ("", "input line 1: NoEnd"),
-    ("mtest 2\n", "input line 1: BadHead"),
+    ("mtest 3\n", "input line 1: BadHead"),
     ("mtest 1\r\n", "input line 1: BadHead"),
     ("mtest 1\nwords 257\n", "input line 2: BadWords"),
     ("mtest 1\nwords 1\nst 0\n", "input line 3: NoThread"),
@@ -560,10 +636,16 @@ const REFUSED_TESTS: [(&str, &str); 8] = [
         "mtest 1\nwords 2\nthread\nst 0\nld 2\nend\n",
         "input line 5: WordRange",
     ),
+    // Store fences and load fences stand in version 2 alone.
+    (
+        "mtest 1\nwords 2\nthread\nst 0\nfence st\nst 1\nthread\nld 1\nfence ld\nld 0\nend\n",
+        "input line 5: BadLine",
+    ),
+    ("mtest 2\nwords 1\nfence st\n", "input line 3: NoThread"),
 ];
 
 /// A piece so many times behind the head of a test.
-const LONG_TESTS: [(&str, &str, u32, &str); 2] = [
+const LONG_TESTS: [(&str, &str, u32, &str); 3] = [
     (
         "mtest 1\nwords 1\n",
         "thread\n",
@@ -573,6 +655,12 @@ const LONG_TESTS: [(&str, &str, u32, &str); 2] = [
     (
         "mtest 1\nwords 1\nthread\n",
         "fence\n",
+        2049,
+        "input line 2052: TooManyOps",
+    ),
+    (
+        "mtest 2\nwords 1\nthread\n",
+        "fence ld\n",
         2049,
         "input line 2052: TooManyOps",
     ),
@@ -634,7 +722,7 @@ fn both_zero(alloc: Global, runs: u32) -> Result<String, AllocError> {
     report(alloc, "sc", runs, lines.as_str(), [0, 1, 0])
 }
 
-const WORDS: [(&str, Status, &str); 8] = [
+const WORDS: [(&str, Status, &str); 10] = [
     ("", Status::Words, "mtrace: words\n"),
     ("check --chunk 0", Status::Words, "mtrace: words\n"),
     ("verify", Status::Words, "mtrace: words\n"),
@@ -642,6 +730,16 @@ const WORDS: [(&str, Status, &str); 8] = [
     ("--help", Status::Words, "mtrace: words\n"),
     ("run", Status::NotBuilt, "mtrace: not built\n"),
     ("demo --model tso", Status::NotBuilt, "mtrace: not built\n"),
+    (
+        "replay --target pso",
+        Status::NotBuilt,
+        "mtrace: not built\n",
+    ),
+    (
+        "replay --target pso --fault loadload",
+        Status::Words,
+        "mtrace: words\n",
+    ),
     ("generate --seed 1", Status::NotBuilt, "mtrace: not built\n"),
 ];
 
@@ -693,7 +791,7 @@ fn words_and_what_is_not_built(rt: HostRuntime) -> Result<(), Fail> {
     Ok(())
 }
 
-/// How many bytes a take gives at most, and which takes fail. Seventy thousand bytes are taken by blocks of 4,096: the eighteenth take gives the last.
+/// How many runs the input has, how many bytes a take gives at most, and which takes fail. Seventy thousand bytes are taken by blocks of 4,096: the eighteenth take gives the last.
 const FAILING_TAKES: [(u32, usize, &[u32]); 6] = [
     (1, 1, &[5]),
     // The take that would tell the end fails.
@@ -704,7 +802,7 @@ const FAILING_TAKES: [(u32, usize, &[u32]); 6] = [
     (8743, 4096, &[18]),
 ];
 
-/// The status, and whether the line and the output are those of a fault of reading, for so many runs.
+/// Whether failing takes of an input of so many runs are a fault of reading.
 fn takes_fail(
     rt: &(impl Threads + Sync),
     alloc: Global,

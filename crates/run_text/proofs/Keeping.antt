@@ -7,7 +7,7 @@ use Rattle.std.specs.List.{list_all}
 use Rattle.test_lang.specs.Text.Numeral.{held}
 use Rattle.run_text.specs.declared.parts.Found.{Found}
 use Rattle.run_text.specs.Parts.{fits, all_fit}
-use Rattle.run_text.specs.Found.{kept, add_value, with_value, Keeps}
+use Rattle.run_text.specs.Found.{kept, add_value, with_value, IsKept}
 
 -- Held down, a value still shows whether it fits, and is kept as the same number.
 fits-held : (v : ℕ) → fits (held v) ≡ fits v
@@ -38,8 +38,8 @@ take-more count want v vs old e = ⊎_elim
     (cases_lt count want)
 
 -- One more value, held down, keeps what is said of all.
-pub keeps-more : (want v m : ℕ) (old new vs : List ℕ) (found : Found) → m ≡ held v → Keeps want old found new vs
-    → Keeps want old (with_value found m) (add_value found.count want m new) (vs ++ v ∷ [])
+pub keeps-more : (want v m : ℕ) (old new vs : List ℕ) (found : Found) → m ≡ held v → IsKept want old found new vs
+    → IsKept want old (with_value found m) (add_value found.count want m new) (vs ++ v ∷ [])
 keeps-more want v m old new vs found e h = record {
   count = simp length-append (omega (arith, h.count));
   fit = ap (λ (b : Bool). b && fits m) h.fit ∙ ap (λ (n : ℕ). all_fit vs && fits n) e ∙ ap (λ (b : Bool). all_fit vs && b) (fits-held v) ∙ fit-one ∙ sym (list_all-append fits vs (v ∷ []));

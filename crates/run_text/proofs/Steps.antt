@@ -5,7 +5,7 @@ use Rattle.std.proofs.lemmas.Bool.{lt-ltb}
 use Rattle.test_lang.specs.Text.Numeral.{numeral_at, held, held_front}
 use Rattle.run_text.specs.declared.parts.Found.{Found}
 use Rattle.run_text.specs.Parts.{fits, gap, with_front, in_front, parts}
-use Rattle.run_text.specs.Found.{add_value, kept, with_value, Keeps, MayKeep, SoFar}
+use Rattle.run_text.specs.Found.{add_value, kept, with_value, IsKept, MayKeep, SoFar}
 use Rattle.run_text.proofs.Reading.{behind, parts-space, parts-other, found-some, found-none}
 use Rattle.run_text.proofs.Keeping.{keeps-more}
 
@@ -36,7 +36,7 @@ so_far-small want bytes left old count new vs h v rest here small shorter room =
     let keeps = keeps-more want v v old new vs before as_held h.keeps in
     record {
       few = omega (arith, h.few, shorter);
-      keeps = subst (λ (f : Found). Keeps want old f (new ++ v ∷ []) (vs ++ v ∷ [])) found (subst (λ (xs : List ℕ). Keeps want old (with_value before v) xs (vs ++ v ∷ [])) next keeps);
+      keeps = subst (λ (f : Found). IsKept want old f (new ++ v ∷ []) (vs ++ v ∷ [])) found (subst (λ (xs : List ℕ). IsKept want old (with_value before v) xs (vs ++ v ∷ [])) next keeps);
       rest = in_front-push vs v (parts gap rest) ∙ ap (in_front vs) (sym here) ∙ h.rest;
     }
 

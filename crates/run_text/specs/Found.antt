@@ -15,13 +15,13 @@ abbrev pub with_value : Found → ℕ → Found
 with_value found v = record { count = found.count + 1; all_fit = found.all_fit && fits v }
 
 -- What was found and kept of these values: how many they are, whether all fit, and the first of them.
-pub record Keeps (want : ℕ) (old : List ℕ) (found : Found) (new vs : List ℕ) : Type 0 where
+pub record IsKept (want : ℕ) (old : List ℕ) (found : Found) (new vs : List ℕ) : Type 0 where
   pub count : found.count ≡ length vs
   pub fit : found.all_fit ≡ all_fit vs
   pub values : new ≡ old ++ map kept (take want vs)
 
 abbrev pub MayKeep : ℕ → List ℕ → Option Found → List ℕ → Option (List ℕ) → Type 0
-MayKeep want old (Some found) new (Some vs) = Keeps want old found new vs
+MayKeep want old (Some found) new (Some vs) = IsKept want old found new vs
 MayKeep want old (Some found) new None = ⊥
 MayKeep want old None new (Some vs) = ⊥
 MayKeep want old None new None = Unit {0}
@@ -29,5 +29,5 @@ MayKeep want old None new None = Unit {0}
 -- These values were read so far, and these bytes are left of all. Each value took two bytes at least.
 pub record SoFar (want : ℕ) (bytes left old : List ℕ) (found : Found) (new vs : List ℕ) : Type 0 where
   pub few : 2 * found.count + length left ≤ length bytes
-  pub keeps : Keeps want old found new vs
+  pub keeps : IsKept want old found new vs
   pub rest : in_front vs (parts gap left) ≡ parts gap bytes

@@ -1,50 +1,20 @@
 -- What the candidates of a load are: the last own store before it or the initial value, and the stores of other threads.
-use Rattle.std.proofs.Common.{◌≡◌, ℕ, zero, suc, ◌<◌, List, [], ◌∷◌, ◌++◌, Bool, true, false, not, ◌&&◌, cond, map, Contains, inl, inr, arith, refl, sym, ap, subst, ◌∙◌, None, Some, append-nil}
+use Rattle.std.proofs.Common.{◌≡◌, ℕ, ◌<◌, List, [], ◌∷◌, Bool, true, false, not, ◌&&◌, cond, Contains, inl, inr, refl, sym, ap, subst, ◌∙◌, Option, None, Some}
 use Rattle.std.specs.Prelude.{filter, find, ◌==◌, nat_lt}
 use Rattle.std.specs.List.{list_any}
-use Rattle.std.proofs.lemmas.List.{map-append}
-use Rattle.std.proofs.lemmas.List.Elements.{filter-append, Decides-contains}
-use Rattle.std.proofs.lemmas.Bool.{cases_eq}
+use Rattle.std.specs.Option.{option_map_or}
+use Rattle.std.proofs.lemmas.List.Elements.{Decides-contains}
+use Rattle.std.proofs.lemmas.Bool.{cases_order}
+use Rattle.std.proofs.lemmas.Option.{same_Some}
 use Rattle.std.proofs.lemmas.Bool.Decides.{Decides-eqb, Decides-by_or}
-use Rattle.orders.specs.Orders.{nodes_below}
 use Rattle.orders.proofs.Below.{has-below}
 use Rattle.orders.proofs.Members.{Contains-nil, Contains-cons_cases, Contains-filter, Contains-filter_back, Contains-map_back}
 use Rattle.test_lang.specs.Program.{Program, op_count, all_nodes}
 use Rattle.test_lang.specs.Values.{is_load, is_store, is_load_at, is_store_at, same_thread, one_word, value_of, load_nodes}
-use Rattle.test_lang.specs.Runs.{last_or_0, own_earlier, writes_for, base, others, candidates, value_read, reads_candidate, IsInside}
+use Rattle.test_lang.specs.Runs.{own_earlier, writes_for, base_store, base, others, candidates, value_read, reads_candidate, IsInside}
+use Rattle.test_lang.proofs.BaseStores.{LastBelow, base_store_below}
+use Rattle.test_lang.proofs.BaseStores.LastBelow.{nothing, last}
 use Rattle.test_lang.proofs.EdgeTests.{at_node-below, not-true}
-
-pub last_or_0-push : (xs : List ℕ) (x : ℕ) → last_or_0 (xs ++ x ∷ []) ≡ x
-last_or_0-push [] x = refl
-last_or_0-push (y ∷ []) x = refl
-last_or_0-push (y ∷ z ∷ zs) x = last_or_0-push (z ∷ zs) x
-
--- what the last number below n that passes gives, or 0 where none passes
-pub data LastBelow (test : ℕ → Bool) (f : ℕ → ℕ) (n : ℕ) (value : ℕ) : Type 0 where
-  nothing : value ≡ 0 → ((k : ℕ) → k < n → test k ≡ false) → LastBelow test f n value
-  last : (w : ℕ) → w < n → test w ≡ true → f w ≡ value → ((k : ℕ) → w < k → k < n → test k ≡ false) → LastBelow test f n value
-
-none_more : (test : ℕ → Bool) (n : ℕ) → test n ≡ false → ((k : ℕ) → k < n → test k ≡ false) → (k : ℕ) → k < suc n → test k ≡ false
-none_more test n e rest k lt = elim (cases_eq k n) [ inl same ↦ subst (λ (z : ℕ). test z ≡ false) (sym same) e | inr other ↦ rest k (omega (arith, lt, other)) ]
-
-last_more : (test : ℕ → Bool) (f : ℕ → ℕ) (n : ℕ) (value : ℕ) → test n ≡ false → LastBelow test f n value → LastBelow test f (suc n) value
-last_more test f n value e (nothing z rest) = nothing z (none_more test n e rest)
-last_more test f n value e (last w lt t v rest) =
-    last w (omega (arith, lt)) t v (λ k above below. elim (cases_eq k n) [ inl same ↦ subst (λ (z : ℕ). test z ≡ false) (sym same) e | inr other ↦ rest k above (omega (arith, below, other)) ])
-
-last_step : (test : ℕ → Bool) (f : ℕ → ℕ) (n : ℕ) (b : Bool) → test n ≡ b → LastBelow test f n (last_or_0 (map f (filter test (nodes_below n)))) →
-    LastBelow test f (suc n) (last_or_0 (map f (filter test (nodes_below n) ++ cond b (n ∷ []) [])))
-last_step test f n true e rest =
-    let value : last_or_0 (map f (filter test (nodes_below n) ++ n ∷ [])) ≡ f n = ap last_or_0 (map-append f (filter test (nodes_below n)) (n ∷ [])) ∙ last_or_0-push (map f (filter test (nodes_below n))) (f n) in
-    last n (omega arith) e (sym value) (λ k above below. absurd (omega (arith, above, below)))
-last_step test f n false e rest =
-    let same : filter test (nodes_below n) ++ [] ≡ filter test (nodes_below n) = simp append-nil in
-    subst (λ (xs : List ℕ). LastBelow test f (suc n) (last_or_0 (map f xs))) (sym same) (last_more test f n (last_or_0 (map f (filter test (nodes_below n)))) e rest)
-
-pub last_below : (test : ℕ → Bool) (f : ℕ → ℕ) (n : ℕ) → LastBelow test f n (last_or_0 (map f (filter test (nodes_below n))))
-last_below test f zero = nothing refl (λ k lt. absurd (omega (arith, lt)))
-last_below test f (suc n) =
-    subst (λ (xs : List ℕ). LastBelow test f (suc n) (last_or_0 (map f xs))) (sym (filter-append test (nodes_below n) (n ∷ []))) (last_step test f n (test n) refl (last_below test f n))
 
 -- a candidate of a load
 pub data IsCandidate (p : Program) (load value : ℕ) : Type 0 where
@@ -75,14 +45,50 @@ none_anywhere p load none n = false_or_true (own_earlier p load n) (λ h. let la
 none_above : (p : Program) (load w : ℕ) → ((k : ℕ) → w < k → k < op_count p → own_earlier p load k ≡ false) → (n : ℕ) → w < n → own_earlier p load n ≡ false
 none_above p load w none n above = false_or_true (own_earlier p load n) (λ h. let lacks = none n above (own_earlier_below p load n h) in absurd cc)
 
-base_kind : (p : Program) (load value : ℕ) → base p load ≡ value → LastBelow (own_earlier p load) (value_of p) (op_count p) (base p load) → IsCandidate p load value
-base_kind p load value e (nothing z none) = initial (sym e ∙ z) (none_anywhere p load none)
-base_kind p load value e (last w lt t v none) = own w t (v ∙ e) (none_above p load w none)
+-- what a base store is
+pub record IsBaseStore (p : Program) (load store : ℕ) : Type 0 where
+  pub is_own : own_earlier p load store ≡ true
+  pub is_last : (n : ℕ) → store < n → own_earlier p load n ≡ false
+
+base_store_from : (p : Program) (load store : ℕ) (found : Option ℕ) → LastBelow (own_earlier p load) (op_count p) found → found ≡ Some store → IsBaseStore p load store
+base_store_from p load store found (nothing is none) e = absurd cc
+base_store_from p load store found (last w lt t is none) e =
+    let same : w ≡ store = same_Some w store (sym is ∙ e) in
+    subst (IsBaseStore p load) same (record { is_own = t; is_last = none_above p load w none })
+
+-- the last own earlier store is the base store
+base_store_of-from : (p : Program) (load store : ℕ) (found : Option ℕ) → LastBelow (own_earlier p load) (op_count p) found → IsBaseStore p load store → found ≡ Some store
+base_store_of-from p load store found (nothing is none) base =
+    let lacks = none store (own_earlier_below p load store base.is_own) in
+    let own = base.is_own in
+    absurd cc
+base_store_of-from p load store found (last w lt t is none) base = elim (cases_order w store) [
+  | inl same ↦ is ∙ ap (λ (n : ℕ). Some n) same
+  | inr (inl before) ↦
+      let lacks = none store before (own_earlier_below p load store base.is_own) in
+      let own = base.is_own in
+      absurd cc
+  | inr (inr after) ↦ let lacks = base.is_last w after in absurd cc
+]
+
+pub base_store_of : (p : Program) (load store : ℕ) → IsBaseStore p load store → base_store p load ≡ Some store
+base_store_of p load store base = base_store_of-from p load store (base_store p load) (base_store_below p load) base
+
+pub base_store_is : (p : Program) (load store : ℕ) → base_store p load ≡ Some store → IsBaseStore p load store
+base_store_is p load store e = base_store_from p load store (base_store p load) (base_store_below p load) e
+
+base_kind : (p : Program) (load value : ℕ) (found : Option ℕ) → LastBelow (own_earlier p load) (op_count p) found → option_map_or (value_of p) found 0 ≡ value → IsCandidate p load value
+base_kind p load value found (nothing is none) e =
+    let zero : option_map_or (value_of p) found 0 ≡ 0 = ap (λ (o : Option ℕ). option_map_or (value_of p) o 0) is in
+    initial (sym e ∙ zero) (none_anywhere p load none)
+base_kind p load value found (last w lt t is none) e =
+    let given : option_map_or (value_of p) found 0 ≡ value_of p w = ap (λ (o : Option ℕ). option_map_or (value_of p) o 0) is in
+    own w t (sym given ∙ e) (none_above p load w none)
 
 -- each element of the list of candidates is of one of the three kinds
 pub candidate_kind : (p : Program) (load value : ℕ) → Contains (candidates p load) value → IsCandidate p load value
 candidate_kind p load value h = elim (Contains-cons_cases (base p load) (others p load) value h) [
-  | inl same ↦ base_kind p load value same (last_below (own_earlier p load) (value_of p) (op_count p))
+  | inl same ↦ base_kind p load value (base_store p load) (base_store_below p load) same
   | inr more ↦
       let store = Contains-map_back (value_of p) (filter (λ n. writes_for p load n && not (same_thread p load n)) (all_nodes p)) value more in
       let parts = and_true (writes_for p load store.0) (not (same_thread p load store.0)) (Contains-filter_back (λ n. writes_for p load n && not (same_thread p load n)) (all_nodes p) store.0 store.1).1 in

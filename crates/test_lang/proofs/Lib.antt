@@ -1,3 +1,4 @@
+pub mod BaseStores
 pub mod EdgeTests
 pub mod EdgeLists
 pub mod ListTests
@@ -7,6 +8,7 @@ pub mod Examples
 pub mod Places
 pub mod Ranks
 pub mod Nodes
+pub mod ActionNodes
 pub mod Threads
 pub mod Growth
 pub mod Rows

@@ -6,7 +6,7 @@ use Rattle.std.proofs.lemmas.Bool.{eqb-true, eq-eqb}
 use Rattle.std.proofs.lemmas.Option.{same_Some}
 use Rattle.test_lang.specs.declared.op.Op.{Op}
 use Rattle.test_lang.specs.Program.{Program, nodes, op_at, thread_at, passes, passes_after}
-use Rattle.test_lang.specs.Values.{is_load, is_store, same_word, is_load_at, is_store_at, same_thread, one_word}
+use Rattle.test_lang.specs.Values.{is_load, is_store, is_fence, same_word, is_load_at, is_store_at, is_fence_at, same_thread, one_word}
 
 node_from : (found : Option (ℕ × Op)) (t : ℕ) (op : Op) → option_map (λ node. node.0) found ≡ Some t → option_map (λ node. node.1) found ≡ Some op → found ≡ Some (t, op)
 node_from None t op e f = absurd cc
@@ -29,6 +29,13 @@ store_from (Some node) op e = ap is_store (same_Some node.1 op e)
 
 pub is_store_at-op : (p : Program) (n : ℕ) (op : Op) → op_at p n ≡ Some op → is_store_at p n ≡ is_store op
 is_store_at-op p n op e = store_from (slice_get (nodes p) n) op e
+
+fence_from : (found : Option (ℕ × Op)) (op : Op) → option_map (λ node. node.1) found ≡ Some op → passes (λ node. is_fence node.1) found ≡ is_fence op
+fence_from None op e = absurd cc
+fence_from (Some node) op e = ap is_fence (same_Some node.1 op e)
+
+pub is_fence_at-op : (p : Program) (n : ℕ) (op : Op) → op_at p n ≡ Some op → is_fence_at p n ≡ is_fence op
+is_fence_at-op p n op e = fence_from (slice_get (nodes p) n) op e
 
 word_from : (first second : Option (ℕ × Op)) (x y : Op) → option_map (λ node. node.1) first ≡ Some x → option_map (λ node. node.1) second ≡ Some y
     → passes_after (λ a b. same_word a.1 b.1) first second ≡ same_word x y

@@ -8,76 +8,78 @@ use Rattle.std.proofs.lemmas.List.Sums.{sum_by-cons, sum_by-take-le}
 use Rattle.std.proofs.lemmas.Option.{slice_get-get_or, same_Some}
 use Rattle.test_lang.specs.declared.op.Op.{Op}
 use Rattle.test_lang.specs.declared.op.Op.TheVariants.{Fence}
+use Rattle.test_lang.specs.declared.op.Action.{Action}
+use Rattle.test_lang.specs.Actions.{op_of}
 use Rattle.test_lang.specs.Program.{Program, nodes, nodes_from, op_count, thread_at, first_node, thread_length}
 
 -- the first node of a thread, by the list of threads
-abbrev first_of : List (List Op) → ℕ → ℕ
+abbrev first_of : List (List Action) → ℕ → ℕ
 first_of threads t = sum_by length (take t threads)
 
-length-nodes_from : (k : ℕ) (threads : List (List Op)) → length (nodes_from k threads) ≡ sum_by length threads
+length-nodes_from : (k : ℕ) (threads : List (List Action)) → length (nodes_from k threads) ≡ sum_by length threads
 length-nodes_from k [] = refl
-length-nodes_from k (ops ∷ more) =
+length-nodes_from k (thread ∷ more) =
     let rest = length-nodes_from (suc k) more in
-    let all = sum_by-cons length ops more in
-    let both = length-append (map (λ op. (k, op)) ops) (nodes_from (suc k) more) in
-    let same = length-map {B = ℕ × Op} ops (λ op. (k, op)) in
+    let all = sum_by-cons length thread more in
+    let both = length-append (map (λ action. (k, op_of action)) thread) (nodes_from (suc k) more) in
+    let same = length-map {B = ℕ × Op} thread (λ action. (k, op_of action)) in
     omega (arith, rest, all, both, same)
 
-first_of-suc : (threads : List (List Op)) (t : ℕ) → first_of threads (suc t) ≡ first_of threads t + length (get_or threads t [])
+first_of-suc : (threads : List (List Action)) (t : ℕ) → first_of threads (suc t) ≡ first_of threads t + length (get_or threads t [])
 first_of-suc [] zero = refl
 first_of-suc [] (suc t) = refl
-first_of-suc (ops ∷ more) zero = let one = sum_by-cons length ops [] in omega (arith, one)
-first_of-suc (ops ∷ more) (suc t) =
-    let long = sum_by-cons length ops (take (suc t) more) in
-    let short = sum_by-cons length ops (take t more) in
+first_of-suc (thread ∷ more) zero = let one = sum_by-cons length thread [] in omega (arith, one)
+first_of-suc (thread ∷ more) (suc t) =
+    let long = sum_by-cons length thread (take (suc t) more) in
+    let short = sum_by-cons length thread (take t more) in
     let rest = first_of-suc more t in
     omega (arith, long, short, rest)
 
-first_of-monotone : (threads : List (List Op)) (t u : ℕ) → t ≤ u → first_of threads t ≤ first_of threads u
+first_of-monotone : (threads : List (List Action)) (t u : ℕ) → t ≤ u → first_of threads t ≤ first_of threads u
 first_of-monotone threads t u h =
     let shorter = sum_by-take-le length (take u threads) t in
     let same = ap (sum_by length) (take-take t u threads h) in
     omega (arith, shorter, same)
 
 -- the node stands in a thread, whose number is told from k on
-record StandsFrom (k : ℕ) (threads : List (List Op)) (n : ℕ) (thread : ℕ) : Type 0 where
+record StandsFrom (k : ℕ) (threads : List (List Action)) (n : ℕ) (thread : ℕ) : Type 0 where
   index : ℕ
   is_index : thread ≡ k + index
   in_range : index < length threads
   from : first_of threads index ≤ n
   to : n < first_of threads (suc index)
 
--- the element is one of the first thread's operations, or one behind them
-split_at : (k : ℕ) (ops : List Op) (rest : List (ℕ × Op)) (n : ℕ) (x : ℕ × Op) → slice_get (map (λ op. (k, op)) ops ++ rest) n ≡ Some x
-    → ((n < length ops) × (x.0 ≡ k)) ⊎ ((j : ℕ) × ((n ≡ length ops + j) × (slice_get rest j ≡ Some x)))
+-- the element is one of the first thread's actions, or one behind them
+split_at : (k : ℕ) (thread : List Action) (rest : List (ℕ × Op)) (n : ℕ) (x : ℕ × Op) → slice_get (map (λ action. (k, op_of action)) thread ++ rest) n ≡ Some x
+    → ((n < length thread) × (x.0 ≡ k)) ⊎ ((j : ℕ) × ((n ≡ length thread + j) × (slice_get rest j ≡ Some x)))
 split_at k [] rest n x e = inr (n, (omega arith, e))
-split_at k (op ∷ ops) rest zero x e = inl (omega arith, ap (λ node. node.0) (sym (same_Some _ _ e)))
-split_at k (op ∷ ops) rest (suc n) x e =
+split_at k (action ∷ thread) rest zero x e = inl (omega arith, ap (λ node. node.0) (sym (same_Some _ _ e)))
+split_at k (action ∷ thread) rest (suc n) x e =
     ⊎_elim
-    (λ (l : (n < length ops) × (x.0 ≡ k)). inl (let lt = l.0 in omega (arith, lt), l.1))
-    (λ (r : (j : ℕ) × ((n ≡ length ops + j) × (slice_get rest j ≡ Some x))). let is = r.1.0 in inr (r.0, (omega (arith, is), r.1.1)))
-    (split_at k ops rest n x e)
+    (λ (l : (n < length thread) × (x.0 ≡ k)). inl (let lt = l.0 in omega (arith, lt), l.1))
+    (λ (r : (j : ℕ) × ((n ≡ length thread + j) × (slice_get rest j ≡ Some x))). let is = r.1.0 in inr (r.0, (omega (arith, is), r.1.1)))
+    (split_at k thread rest n x e)
 
-stands_from : (k : ℕ) (threads : List (List Op)) (n : ℕ) (x : ℕ × Op) → slice_get (nodes_from k threads) n ≡ Some x → StandsFrom k threads n x.0
+stands_from : (k : ℕ) (threads : List (List Action)) (n : ℕ) (x : ℕ × Op) → slice_get (nodes_from k threads) n ≡ Some x → StandsFrom k threads n x.0
 stands_from k [] n x e = absurd cc
-stands_from k (ops ∷ more) n x e =
+stands_from k (thread ∷ more) n x e =
     ⊎_elim
-    (λ (l : (n < length ops) × (x.0 ≡ k)).
+    (λ (l : (n < length thread) × (x.0 ≡ k)).
     let lt = l.0 in
     let same = l.1 in
-    let one = sum_by-cons length ops [] in
+    let one = sum_by-cons length thread [] in
     record { index = 0; is_index = omega (arith, same); in_range = omega arith; from = omega arith; to = omega (arith, lt, one) })
-    (λ (r : (j : ℕ) × ((n ≡ length ops + j) × (slice_get (nodes_from (suc k) more) j ≡ Some x))).
+    (λ (r : (j : ℕ) × ((n ≡ length thread + j) × (slice_get (nodes_from (suc k) more) j ≡ Some x))).
     let is = r.1.0 in
     let later = stands_from (suc k) more r.0 x r.1.1 in
     let is_index = later.is_index in
     let in_range = later.in_range in
     let from = later.from in
     let to = later.to in
-    let short = sum_by-cons length ops (take later.index more) in
-    let long = sum_by-cons length ops (take (suc later.index) more) in
+    let short = sum_by-cons length thread (take later.index more) in
+    let long = sum_by-cons length thread (take (suc later.index) more) in
     record { index = suc later.index; is_index = omega (arith, is_index); in_range = omega (arith, in_range); from = omega (arith, is, from, short); to = omega (arith, is, to, long) })
-    (split_at k ops (nodes_from (suc k) more) n x e)
+    (split_at k thread (nodes_from (suc k) more) n x e)
 
 -- of a program
 

@@ -1,3 +1,4 @@
+pub mod Actions
 pub mod Program
 pub mod Values
 pub mod Tables

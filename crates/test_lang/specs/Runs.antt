@@ -1,7 +1,7 @@
 -- Runs, and the candidates of loads.
-use Rattle.std.specs.Prelude.{◌≡◌, ℕ, ◌^◌, ◌<◌, List, [], ◌∷◌, map, filter, find, length, Bool, not, ◌&&◌, ◌==◌, nat_lt, Option, None, slice_index, All}
-use Rattle.std.specs.List.{list_any}
-use Rattle.std.specs.Option.{option_map}
+use Rattle.std.specs.Prelude.{◌≡◌, ℕ, ◌^◌, ◌<◌, List, ◌∷◌, map, filter, find, length, Bool, not, ◌&&◌, ◌==◌, nat_lt, Option, None, slice_index, All}
+use Rattle.std.specs.List.{list_any, last_or}
+use Rattle.std.specs.Option.{option_map, option_map_or}
 use Rattle.test_lang.specs.Program.{Program, all_nodes}
 use Rattle.test_lang.specs.Values.{is_store_at, same_thread, one_word, value_of, rank_of, load_count, load_nodes}
 
@@ -22,19 +22,17 @@ value_read p run load = slice_index run (rank_of p load)
 abbrev pub writes_for : Program → ℕ → ℕ → Bool
 writes_for p load n = is_store_at p n && one_word p load n
 
--- the last of a list, or 0 where it is empty
-abbrev pub last_or_0 : List ℕ → ℕ
-last_or_0 [] = 0
-last_or_0 (x ∷ []) = x
-last_or_0 (x ∷ y ∷ more) = last_or_0 (y ∷ more)
-
 -- an earlier store to the load's word in its own thread
 abbrev pub own_earlier : Program → ℕ → ℕ → Bool
 own_earlier p load n = writes_for p load n && (same_thread p load n && nat_lt n load)
 
--- the value of the last of them, or the initial value 0 where there is none
+-- the last of them, if there is one
+abbrev pub base_store : Program → ℕ → Option ℕ
+base_store p load = last_or None (filter (own_earlier p load) (all_nodes p))
+
+-- its value, or the initial value 0 where there is none
 abbrev pub base : Program → ℕ → ℕ
-base p load = last_or_0 (map (value_of p) (filter (own_earlier p load) (all_nodes p)))
+base p load = option_map_or (value_of p) (base_store p load) 0
 
 -- the values of all stores to the load's word in other threads, in node order
 abbrev pub others : Program → ℕ → List ℕ

@@ -1,7 +1,7 @@
 -- Which machine can carry which planted fault.
 use Rattle.std.specs.Prelude.{Bool, true, false}
 use Rattle.test_lang.specs.declared.target.Target.{Target}
-use Rattle.test_lang.specs.declared.target.Target.TheVariants.{Sc, Tso, Weak}
+use Rattle.test_lang.specs.declared.target.Target.TheVariants.{Sc, Tso, Pso, Weak}
 use Rattle.test_lang.specs.declared.target.Fault.{Fault}
 use Rattle.test_lang.specs.declared.target.Fault.TheVariants.{None, Stale, NoFence, Unordered, NoForward, LoadLoad}
 
@@ -18,6 +18,12 @@ fits Tso NoFence = true
 fits Tso Unordered = true
 fits Tso NoForward = true
 fits Tso LoadLoad = false
+fits Pso None = true
+fits Pso (Stale node) = true
+fits Pso NoFence = true
+fits Pso Unordered = true
+fits Pso NoForward = true
+fits Pso LoadLoad = false
 fits Weak None = true
 fits Weak (Stale node) = true
 fits Weak NoFence = true

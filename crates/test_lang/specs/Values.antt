@@ -45,6 +45,9 @@ is_load_at p n = at_node (λ node. is_load node.1) p n
 abbrev pub is_store_at : Program → ℕ → Bool
 is_store_at p n = at_node (λ node. is_store node.1) p n
 
+abbrev pub is_fence_at : Program → ℕ → Bool
+is_fence_at p n = at_node (λ node. is_fence node.1) p n
+
 abbrev pub same_thread : Program → ℕ → ℕ → Bool
 same_thread p a b = at_nodes (λ first second. first.0 == second.0) p a b
 

@@ -7,8 +7,10 @@ ghost use Rattle.test_lang.specs.Targets.{fits};
 pub enum Target {
     /// Each operation takes effect at once, in the order of its thread.
     Sc,
-    /// Stores wait in a buffer of their thread.
+    /// Stores wait in a buffer of their thread, and leave it in order.
     Tso,
+    /// Stores wait in a buffer of their thread, and those to different words leave it in any order.
+    Pso,
     /// Operations of a thread take effect in any order that the weak model allows.
     Weak,
 }
@@ -38,7 +40,7 @@ pub fn fits(target: Target, fault: Fault) -> bool
         (_, Fault::None | Fault::Stale { .. }) => true,
         (Target::Sc, _) => false,
         (_, Fault::NoFence | Fault::NoForward) => true,
-        (Target::Tso, Fault::Unordered) => true,
+        (Target::Tso | Target::Pso, Fault::Unordered) => true,
         (Target::Weak, Fault::LoadLoad) => true,
         _ => false,
     }

@@ -1,9 +1,10 @@
 //! A test: threads of operations over a number of words, with tables that answer for each node in constant time.
-ghost use Rattle.std.specs.Prelude.{◌≡◌, ◌<◌, ◌≤◌, length, OnOk, OnErr};
-ghost use Rattle.test_lang.specs.Program.{empty_program, with_thread, with_op, op_count, HasWord, IsWithinLimits};
+ghost use Rattle.std.specs.Prelude.{◌≡◌, ◌<◌, ◌≤◌, length, IsTrue, OnOk, OnErr};
+ghost use Rattle.test_lang.specs.Actions.{op_of, allows, allows_kind};
+ghost use Rattle.test_lang.specs.Program.{empty_program, with_thread, with_action, with_op, op_count, HasWord, IsWithinLimits};
 ghost use Rattle.test_lang.specs.Values.{load_count, store_count};
 
-use crate::op::Op;
+use crate::op::{Action, FenceKind, Op};
 use std::alloc::{AllocError, Global};
 use std::marker::Model;
 
@@ -11,6 +12,9 @@ mod copies;
 mod lookups;
 #[cfg(test)]
 pub(crate) mod tests;
+
+/// The last version of tests. The first is 1. Only this one has store fences and load fences.
+pub const LAST_VERSION: u32 = 2;
 
 /// The most words that a test may have.
 pub const MAX_WORDS: u32 = 256;
@@ -25,19 +29,20 @@ pub const MAX_OPS: u32 = 2048;
 #[derive(Clone, Copy, Debug, Drop)]
 struct Row {
     thread: u32,
-    op: Op,
+    action: Action,
     /// One more than the number of stores before the node: its value, where it is a store.
     value: u32,
     /// The number of loads before the node: its rank, where it is a load.
     rank: u32,
 }
 
-/// A test: 1 to `MAX_WORDS` words, and at most `MAX_THREADS` threads of at most `MAX_OPS` operations in all.
+/// A test: a version, 1 to `MAX_WORDS` words, and at most `MAX_THREADS` threads of at most `MAX_OPS` operations in all.
 ///
 /// Its operations, numbered from 0 in text order, fences included, are its nodes. Loads have ranks from 0, and stores have values from 1,
 /// both in text order.
 #[derive(Debug, Drop)]
 pub struct Test {
+    version: u32,
     words: u32,
     rows: Vec<Row>,
     load_nodes: Vec<u32>,
@@ -52,20 +57,32 @@ impl Model for Test {
 
     ghost Value = { Program };
 
-    ghost view = { λ t. program_of t.words (length t.first_nodes.items) t.rows.items };
+    ghost view = { λ t. program_of t.version t.words (length t.first_nodes.items) t.rows.items };
 
-    ghost invariant = { λ t. TabulatesTest (program_of t.words (length t.first_nodes.items) t.rows.items)
+    ghost invariant = { λ t. TabulatesTest (program_of t.version t.words (length t.first_nodes.items) t.rows.items)
         t.rows.items t.load_nodes.items t.store_nodes.items t.first_nodes.items };
 }
 
 impl Test {
-    /// A test without threads. It takes no memory.
+    /// A test of version 1 without threads. It takes no memory.
     pub fn new(alloc: Global, words: u32) -> Test
         requires some { 1 ≤ words }
         requires few { words ≤ MAX_WORDS }
-        ensures { result ≡ empty_program words }
+        ensures { result ≡ empty_program 1 words }
+    {
+        Test::new_version(alloc, 1, words)
+    }
+
+    /// A test of this version without threads. It takes no memory.
+    pub fn new_version(alloc: Global, version: u32, words: u32) -> Test
+        requires first { 1 ≤ version }
+        requires last { version ≤ LAST_VERSION }
+        requires some { 1 ≤ words }
+        requires few { words ≤ MAX_WORDS }
+        ensures { result ≡ empty_program version words }
     {
         Test {
+            version,
             words,
             rows: Vec::new(alloc),
             load_nodes: Vec::new(alloc),
@@ -84,7 +101,7 @@ impl Test {
         Ok(())
     }
 
-    /// Adds the operation at the end of the last thread. The error is want of memory.
+    /// Adds the operation at the end of the last thread. A fence is a full one. The error is want of memory.
     pub fn add_op(&mut self, op: Op) -> Result<(), AllocError>
         requires thread { 0 < length self.old.threads }
         requires room { op_count self.old < MAX_OPS }
@@ -92,22 +109,54 @@ impl Test {
         ensures ok { OnOk result (self.new ≡ with_op self.old op) }
         ensures err { OnErr result (self.new ≡ self.old) }
     {
+        self.add_action(op.action())
+    }
+
+    /// Adds a fence of this kind at the end of the last thread. The error is want of memory.
+    pub fn add_fence(&mut self, kind: FenceKind) -> Result<(), AllocError>
+        requires thread { 0 < length self.old.threads }
+        requires room { op_count self.old < MAX_OPS }
+        requires kind { IsTrue (allows_kind self.old.version kind) }
+        ensures ok { OnOk result (self.new ≡ with_action self.old (Action.Fence kind)) }
+        ensures err { OnErr result (self.new ≡ self.old) }
+    {
+        self.add_action(Action::Fence { kind })
+    }
+
+    /// Adds the action at the end of the last thread. The error is want of memory.
+    pub fn add_action(&mut self, action: Action) -> Result<(), AllocError>
+        requires thread { 0 < length self.old.threads }
+        requires room { op_count self.old < MAX_OPS }
+        requires word { HasWord self.old (op_of action) }
+        requires kind { IsTrue (allows self.old.version action) }
+        ensures ok { OnOk result (self.new ≡ with_action self.old action) }
+        ensures err { OnErr result (self.new ≡ self.old) }
+    {
         let node = self.rows.len() as u32;
         let row = Row {
             thread: self.first_nodes.len() as u32 - 1,
-            op,
+            action,
             value: self.store_nodes.len() as u32 + 1,
             rank: self.load_nodes.len() as u32,
         };
         // Room for the row comes first, so that nothing has to be undone.
         self.rows.reserve(1)?;
-        match op {
-            Op::Load { .. } => self.load_nodes.push(node)?,
-            Op::Store { .. } => self.store_nodes.push(node)?,
-            Op::Fence => {}
+        match action {
+            Action::Load { .. } => self.load_nodes.push(node)?,
+            Action::Store { .. } => self.store_nodes.push(node)?,
+            Action::Fence { .. } => {}
         }
         self.rows.push(row).unwrap();
         Ok(())
+    }
+
+    /// The version.
+    pub fn version(&self) -> u32
+        ensures version { result ≡ self.now.version }
+        ensures first { 1 ≤ result }
+        ensures last { result ≤ LAST_VERSION }
+    {
+        self.version
     }
 
     /// The number of words.

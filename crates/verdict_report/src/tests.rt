@@ -104,7 +104,7 @@ fn written(alloc: Global, case: &Case<'_>) -> Result<(Vec<u8>, bool), Fail> {
     Ok((text(alloc, &report)?, report.is_clean()))
 }
 
-const CASES: [Case<'static>; 6] = [
+const CASES: [Case<'static>; 7] = [
     Case {
         model: MemModel::Sc,
         runs: 1,
@@ -170,6 +170,18 @@ const CASES: [Case<'static>; 6] = [
             sum signatures 0 ok 0 cycle 0 outside 3\n\
             work chunks 0 full 0 kept 0 resorted 0 nodes 0\n",
         clean: false,
+    },
+    Case {
+        model: MemModel::Pso,
+        runs: 0,
+        inside: &[],
+        outside: &[],
+        cycles: &[],
+        work: [0, 0, 0, 0, 0],
+        want: "mtrace 1\nmodel pso\nruns 0\n\
+            sum signatures 0 ok 0 cycle 0 outside 0\n\
+            work chunks 0 full 0 kept 0 resorted 0 nodes 0\n",
+        clean: true,
     },
     Case {
         model: MemModel::Weak,

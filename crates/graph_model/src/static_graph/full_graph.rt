@@ -18,10 +18,12 @@ pub struct Full<'a> {
     model: MemModel,
     run: &'a [u32],
     loads: &'a WordLoads,
+    bases: &'a [Option<u32>],
 }
 
 impl<'a> Model for Full<'a> {
     ghost use Rattle.graph_model.specs.RunGraph.{RunGraph};
+    ghost use Rattle.graph_model.specs.StoreTables.{HasBaseStores};
     ghost use Rattle.graph_model.specs.WordLoads.{TellsWordLoads};
     ghost use Rattle.test_lang.specs.Runs.{IsInside};
 
@@ -29,7 +31,7 @@ impl<'a> Model for Full<'a> {
 
     ghost view = { λ f. record { test = f.test.now; model = f.model; run = f.run.now } };
 
-    ghost invariant = { λ f. IsInside f.test.now f.run.now × TellsWordLoads f.test.now f.loads.now };
+    ghost invariant = { λ f. IsInside f.test.now f.run.now × TellsWordLoads f.test.now f.loads.now × HasBaseStores f.test.now f.bases.now };
 }
 
 impl Static {
@@ -43,6 +45,7 @@ impl Static {
             model: self.model,
             run,
             loads: &self.loads,
+            bases: &self.base_stores,
         }
     }
 }
@@ -64,6 +67,8 @@ impl Pairs for Full<'_> {
     }
 
     fn mark_sources(&self, to: u32, mark: u32, marks: &mut [u32]) {
-        mark_sources(self.test, self.model, self.run, self.loads, to, mark, marks);
+        mark_sources(
+            self.test, self.model, self.run, self.loads, self.bases, to, mark, marks,
+        );
     }
 }

@@ -3,7 +3,7 @@ ghost use Rattle.std.specs.Prelude.{◌≡◌, ◌+◌, ◌∷◌, [], ◌++◌,
 ghost use Rattle.test_lang.specs.Program.{op_at, op_count};
 ghost use Rattle.test_lang.specs.Runs.{IsInside};
 ghost use Rattle.test_lang.specs.Values.{is_load_at, load_count, load_nodes};
-ghost use Rattle.graph_model.specs.LoadEdges.{edges_by_store, edges_of_load, edges_to_first_stores};
+ghost use Rattle.graph_model.specs.LoadEdges.{edges_by_store, edges_of_load, edges_to_first_stores, load_edge_room};
 
 use crate::static_graph::Static;
 use digraph::{Edges, Steps};
@@ -12,7 +12,7 @@ use test_lang::op::Op;
 use test_lang::test::{MAX_THREADS, Test};
 
 /// Room for the edges of a load of any test.
-const MOST_LOAD_EDGES: usize = 2 + MAX_THREADS as usize;
+const MOST_LOAD_EDGES: usize = 3 + MAX_THREADS as usize;
 
 /// Writes an edge behind the first `count` ones, and returns their number with it. Where `is_there` is false it is written all the same, but not
 /// counted, so that this doesn't branch: which store a load gives is up to chance.
@@ -60,21 +60,25 @@ impl Static {
     fn put_by_store(&self, load: u32, store: u32, out: &mut [(u32, u32)], count: usize) -> usize
         requires load { load < op_count self.now.test }
         requires store { store < op_count self.now.test }
-        requires room { count + 2 ≤ length out.old }
+        requires room { count + 3 ≤ length out.old }
         ensures put { take result out.new
             ≡ take count out.old ++ edges_by_store self.now.test load (Some store) }
-        ensures few { result ≤ count + 2 }
+        ensures few { result ≤ count + 3 }
     {
         let is_other = self.test.thread_of(store) != self.test.thread_of(load);
         let next = self.next_stores[store as usize];
+        let base = self.base_stores[load as usize];
         let count = put(out, count, (store, load), is_other);
         // Where there is no such store, any node will do.
         let to = next.unwrap_or(load);
-        put(out, count, (load, to), is_other & next.is_some())
+        let from = base.unwrap_or(load);
+        let count = put(out, count, (load, to), is_other & next.is_some());
+        put(out, count, (from, store), is_other & base.is_some())
     }
 
     /// Writes the few edges of a load, by its rank, behind the first `count` ones, and returns their number with these. The edges lead from the store
-    /// of another thread that the load gives, and to the first stores that are known to be later than what it gives.
+    /// of another thread that the load gives, to the first stores that are known to be later than what it gives, and to that store from the load's base
+    /// store.
     pub(super) fn put_load(
         &self,
         run: &[u32],
@@ -84,10 +88,10 @@ impl Static {
     ) -> usize
         requires inside { IsInside self.now.test run.now }
         requires rank { rank < load_count self.now.test }
-        requires room { count + (2 + length self.now.test.threads) ≤ length out.old }
+        requires room { count + load_edge_room self.now.test ≤ length out.old }
         ensures put { take result out.new ≡ take count out.old
             ++ edges_of_load self.now.test run.now (slice_index (load_nodes self.now.test) rank) }
-        ensures few { result ≤ count + (2 + length self.now.test.threads) }
+        ensures few { result ≤ count + load_edge_room self.now.test }
     {
         let load = self.test.load_at(rank);
         let value = run[rank as usize];
@@ -98,8 +102,8 @@ impl Static {
         }
     }
 
-    /// Empties the list and puts the few edges of a load there, by its rank: from the store of another thread that it gives, and to the first stores
-    /// that are known to be later than what it gives. It ticks once for each edge.
+    /// Empties the list and puts the few edges of a load there, by its rank: from the store of another thread that it gives, to the first stores
+    /// that are known to be later than what it gives, and to that store from the load's base store. It ticks once for each edge.
     pub fn dynamic_into<L: Ledger>(
         &self,
         run: &[u32],
@@ -109,13 +113,13 @@ impl Static {
     )
         requires inside { IsInside self.now.test run.now }
         requires rank { rank < load_count self.now.test }
-        requires room { 2 + length self.now.test.threads ≤ out.old.room }
+        requires room { load_edge_room self.now.test ≤ out.old.room }
         ensures edges { out.new
             ≡ record out.old {
               list = edges_of_load self.now.test run.now
                   (slice_index (load_nodes self.now.test) rank);
             } }
-        ensures few { length out.new.list ≤ 2 + length self.now.test.threads }
+        ensures few { length out.new.list ≤ load_edge_room self.now.test }
         ensures ticks { steps.new ≡ steps.old + length out.new.list }
     {
         // The prover is told how many threads there may be.

@@ -3,7 +3,7 @@ ghost use Rattle.std.specs.Prelude.{◌≡◌, ◌+◌, ◌^◌, ◌<◌, ◌≤
 ghost use Rattle.std.specs.List.{flat_map};
 ghost use Rattle.test_lang.specs.Runs.{IsInside};
 ghost use Rattle.test_lang.specs.Values.{load_nodes};
-ghost use Rattle.graph_model.specs.LoadEdges.{edges_of_load};
+ghost use Rattle.graph_model.specs.LoadEdges.{edges_of_load, load_edge_room};
 ghost use Rattle.graph_model.specs.RunVerdicts.{StandsForRun};
 ghost use Rattle.graph_model.specs.StaticGraph.{few_run_edges, run_edge_room};
 
@@ -26,13 +26,21 @@ impl Static {
         Ok(copy)
     }
 
-    /// Room for the edges that the loads of any run add: for each load two, and one for each thread.
+    /// Room for the edges that a load adds, whatever the run: three, and one for each thread.
+    pub fn load_edge_room(&self) -> u32
+        ensures count { result ≡ load_edge_room self.now.test }
+        ensures few { result ≤ 19 }
+    {
+        3 + self.threads()
+    }
+
+    /// Room for the edges that the loads of any run add.
     pub fn run_edge_room(&self) -> u32
         ensures count { result ≡ run_edge_room self.now.test }
-        // 2048 loads, 18 edges each.
-        ensures few { result ≤ 36864 }
+        // 2048 loads, 19 edges each.
+        ensures few { result ≤ 38912 }
     {
-        self.loads() * (2 + self.threads())
+        self.loads() * self.load_edge_room()
     }
 
     /// A copy of the static graph with room for the few edges of any run. The error is want of memory.

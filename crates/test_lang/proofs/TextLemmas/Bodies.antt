@@ -1,28 +1,29 @@
 -- The lines of a test, and its limits, as it grows.
-use Rattle.std.proofs.Common.{◌≡◌, ℕ, zero, suc, ◌<◌, ◌≤◌, List, [], ◌∷◌, ◌++◌, length, refl, ap, arith, ◌∙◌, sym, append_assoc, append-nil, length-append}
-use Rattle.std.specs.Prelude.{codes, sum_by}
+use Rattle.std.proofs.Common.{◌≡◌, ℕ, zero, suc, ◌<◌, ◌≤◌, List, [], ◌∷◌, ◌++◌, length, refl, ap, arith, ◌∙◌, sym, append_assoc, append-nil}
+use Rattle.std.specs.Prelude.{codes, sum_by, IsTrue}
 use Rattle.std.specs.List.{flat_map}
 use Rattle.std.proofs.lemmas.List.{map-append, take_all}
 use Rattle.std.proofs.lemmas.List.Concat.{flat_map-append}
-use Rattle.std.proofs.lemmas.List.Elements.{All-append, All-cons, All-nil}
-use Rattle.test_lang.specs.declared.op.Op.{Op}
-use Rattle.test_lang.specs.Program.{Program, empty_program, with_last, with_thread, with_op, nodes, op_count, HasWord, IsWithinLimits}
-use Rattle.test_lang.specs.Text.Grammar.{op_line, thread_lines, body_lines}
+use Rattle.std.proofs.lemmas.List.Elements.{All-nil}
+use Rattle.test_lang.specs.declared.op.Action.{Action}
+use Rattle.test_lang.specs.Actions.{op_of, allows}
+use Rattle.test_lang.specs.Program.{Program, empty_program, with_last, with_thread, with_action, op_count, HasWord, IsVersion, IsWithinLimits}
+use Rattle.test_lang.specs.Text.Grammar.{action_line, thread_lines, body_lines}
 use Rattle.test_lang.proofs.Threads.{first_node_all}
-use Rattle.test_lang.proofs.Growth.{nodes-with_thread, nodes-with_op, threads-with_op}
+use Rattle.test_lang.proofs.Growth.{limits_thread, limits_action}
 
 pub body_lines-with_thread : (p : Program) → body_lines (with_thread p) ≡ body_lines p ++ codes "thread" ∷ []
 body_lines-with_thread p = flat_map-append thread_lines p.threads ([] ∷ [])
 
-flat_map-with_last : (threads : List (List Op)) (op : Op) → 0 < length threads → flat_map thread_lines (with_last threads op) ≡ flat_map thread_lines threads ++ op_line op ∷ []
-flat_map-with_last [] op h = absurd (omega arith)
-flat_map-with_last (ops ∷ []) op h = grind (arith, map-append, append-nil)
-flat_map-with_last (ops ∷ next ∷ more) op h =
+flat_map-with_last : (threads : List (List Action)) (action : Action) → 0 < length threads → flat_map thread_lines (with_last threads action) ≡ flat_map thread_lines threads ++ action_line action ∷ []
+flat_map-with_last [] action h = absurd (omega arith)
+flat_map-with_last (thread ∷ []) action h = grind (arith, map-append, append-nil)
+flat_map-with_last (thread ∷ next ∷ more) action h =
     let rest = flat_map thread_lines (next ∷ more) in
-    ap (λ (ls : List (List ℕ)). thread_lines ops ++ ls) (flat_map-with_last (next ∷ more) op (omega arith)) ∙ sym (append_assoc (thread_lines ops) rest (op_line op ∷ []))
+    ap (λ (ls : List (List ℕ)). thread_lines thread ++ ls) (flat_map-with_last (next ∷ more) action (omega arith)) ∙ sym (append_assoc (thread_lines thread) rest (action_line action ∷ []))
 
-pub body_lines-with_op : (p : Program) (op : Op) → 0 < length p.threads → body_lines (with_op p op) ≡ body_lines p ++ op_line op ∷ []
-body_lines-with_op p op h = flat_map-with_last p.threads op h
+pub body_lines-with_action : (p : Program) (action : Action) → 0 < length p.threads → body_lines (with_action p action) ≡ body_lines p ++ action_line action ∷ []
+body_lines-with_action p action h = flat_map-with_last p.threads action h
 
 -- the number of operations
 
@@ -41,26 +42,20 @@ last_thread p h = go (length p.threads) refl h
 
 -- the limits
 
-pub limits-empty : (n : ℕ) → 1 ≤ n → n ≤ 256 → IsWithinLimits (empty_program n)
-limits-empty n some few = record { some_word = some; words = few; threads = omega arith; operations = omega arith; words_of = All-nil (λ node. HasWord (empty_program n) node.1) }
-
-pub limits-with_thread : (p : Program) → IsWithinLimits p → length p.threads < 16 → IsWithinLimits (with_thread p)
-limits-with_thread p h room = record {
-  some_word = h.some_word;
-  words = h.words;
-  threads = rw (length-append p.threads ([] ∷ [])) (omega arith);
-  operations = rw (nodes-with_thread p) h.operations;
-  words_of = rw (nodes-with_thread p) h.words_of;
+pub limits-empty : (version n : ℕ) → IsVersion version → 1 ≤ n → n ≤ 256 → IsWithinLimits (empty_program version n)
+limits-empty version n is some few = record {
+  version = is;
+  some_word = some;
+  words = few;
+  threads = omega arith;
+  operations = omega arith;
+  words_of = All-nil (λ node. HasWord (empty_program version n) node.1);
+  kinds_of = All-nil (λ node. IsTrue (allows version node.1));
 }
 
-pub limits-with_op : (p : Program) (op : Op) → IsWithinLimits p → 0 < length p.threads → HasWord p op → op_count p < 2048 → IsWithinLimits (with_op p op)
-limits-with_op p op h some word room =
-    let last = last_thread p some in
-    let grown = nodes-with_op p op (last.0) (last.1) in
-    record {
-      some_word = h.some_word;
-      words = h.words;
-      threads = rw (threads-with_op p op) h.threads;
-      operations = rw (grown, length-append (nodes p) ((last.0, op) ∷ [])) (omega arith);
-      words_of = rw grown (All-append (λ node. HasWord p node.1) (nodes p) ((last.0, op) ∷ []) h.words_of (All-cons (λ node. HasWord p node.1) (last.0, op) [] word (All-nil (λ node. HasWord p node.1))));
-    }
+pub limits-with_thread : (p : Program) → IsWithinLimits p → length p.threads < 16 → IsWithinLimits (with_thread p)
+limits-with_thread p h room = limits_thread p h room
+
+pub limits-with_action : (p : Program) (action : Action) → IsWithinLimits p → 0 < length p.threads → HasWord p (op_of action) → op_count p < 2048 → IsTrue (allows p.version action)
+    → IsWithinLimits (with_action p action)
+limits-with_action p action h some word room kind = let last = last_thread p some in limits_action p action (last.0) (last.1) h room word kind

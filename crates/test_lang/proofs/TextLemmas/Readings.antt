@@ -3,18 +3,18 @@ use Rattle.std.proofs.Common.{◌≡◌, ◌≢◌, ℕ, ◌<◌, ◌≤◌, Lis
 use Rattle.std.specs.Prelude.{codes}
 use Rattle.std.specs.List.{AllByRecursion, flat_map}
 use Rattle.std.proofs.lemmas.Bool.{eqb-true, eqb-false}
-use Rattle.test_lang.specs.declared.op.Op.{Op}
+use Rattle.test_lang.specs.declared.op.Action.{Action}
 use Rattle.test_lang.specs.declared.text.fault.TestFault.{TestFault}
 use Rattle.test_lang.specs.declared.text.fault.TestFault.TheVariants.{BadHead, BadWords, BadLine, WordRange, TooManyThreads, TooManyOps, NoThread, NoEnd, Memory}
-use Rattle.test_lang.specs.Program.{Program, HasWord, IsWithinLimits}
+use Rattle.test_lang.specs.Program.{Program, IsWithinLimits}
 use Rattle.test_lang.specs.Text.Line.{IsLine, StartsWithLine, IsInLines, closed, lines_of, on_first}
-use Rattle.test_lang.specs.Text.Grammar.{op_line, thread_lines, body_lines, test_lines, test_text, StartsWithTest}
+use Rattle.test_lang.specs.Text.Grammar.{action_line, thread_lines, body_lines, test_lines, test_text, StartsWithTest}
 use Rattle.test_lang.specs.Text.Reading.{reading}
 use Rattle.test_lang.specs.Text.Refusal.{Begun, nothing, head, behind, begun_lines, IsWellBegun, IsBad, IsBadLine, TextMeans}
 use Rattle.test_lang.proofs.TextLemmas.Lines.{lines_of-line, lines_of-none, lines_of-closed, closed-append}
-use Rattle.test_lang.proofs.TextLemmas.Forms.{IsLine-head, IsLine-words, IsLine-thread, IsLine-op, IsLine-end}
+use Rattle.test_lang.proofs.TextLemmas.Forms.{IsLine-head, IsLine-words, IsLine-thread, IsLine-action, IsLine-end}
 use Rattle.test_lang.proofs.TextLemmas.Walking.{IsBadRest, below_256}
-use Rattle.test_lang.proofs.TextLemmas.Passing.{program, words_of-threads}
+use Rattle.test_lang.proofs.TextLemmas.Passing.{program, IsFit, fit-threads}
 use Rattle.test_lang.proofs.TextLemmas.LinesRead.{LinesMean, lines_mean, mean_lines}
 
 on_first-in_lines : (c : ℕ) (cs : List ℕ) (lines : List (List ℕ)) (rest : List ℕ) → c ≢ 10 → IsInLines cs lines rest → (more : List ℕ) × IsInLines (c ∷ cs) (on_first c lines) more
@@ -41,25 +41,26 @@ each-behind (line ∷ lines) after h = each-behind lines after (h.1)
 
 -- the lines of a test hold no line feed
 
-each-ops : (p : Program) (ops : List Op) → p.words ≤ 256 → AllByRecursion (HasWord p) ops → AllByRecursion IsLine (map op_line ops)
-each-ops p [] few h = tt
-each-ops p (op ∷ ops) few h = (IsLine-op op (below_256 p op few (h.0)), each-ops p ops few (h.1))
+each-actions : (p : Program) (thread : List Action) → p.words ≤ 256 → AllByRecursion (IsFit p.version p.words) thread → AllByRecursion IsLine (map action_line thread)
+each-actions p [] few h = tt
+each-actions p (action ∷ thread) few h = (IsLine-action action (below_256 p action few (h.0.0)), each-actions p thread few (h.1))
 
-each-threads : (p : Program) (threads : List (List Op)) → p.words ≤ 256 → AllByRecursion (AllByRecursion (HasWord p)) threads → AllByRecursion IsLine (flat_map thread_lines threads)
+each-threads : (p : Program) (threads : List (List Action)) → p.words ≤ 256 → AllByRecursion (AllByRecursion (IsFit p.version p.words)) threads → AllByRecursion IsLine (flat_map thread_lines threads)
 each-threads p [] few h = tt
-each-threads p (ops ∷ more) few h =
-    each-append (thread_lines ops) (flat_map thread_lines more) (IsLine-thread, each-ops p ops few (h.0)) (each-threads p more few (h.1))
+each-threads p (thread ∷ more) few h =
+    each-append (thread_lines thread) (flat_map thread_lines more) (IsLine-thread, each-actions p thread few (h.0)) (each-threads p more few (h.1))
 
 each-body : (p : Program) → IsWithinLimits p → AllByRecursion IsLine (body_lines p)
-each-body p h = each-threads (program p.words []) p.threads h.words (words_of-threads p h)
+each-body p h = each-threads (program p.version p.words []) p.threads h.words (fit-threads p h)
 
 each-test : (p : Program) → IsWithinLimits p → AllByRecursion IsLine (test_lines p)
-each-test p h = (IsLine-head, (IsLine-words p.words h.words, each-append (body_lines p) (codes "end" ∷ []) (each-body p h) (IsLine-end, tt)))
+each-test p h =
+    (IsLine-head p.version (h.version.1), (IsLine-words p.words h.words, each-append (body_lines p) (codes "end" ∷ []) (each-body p h) (IsLine-end, tt)))
 
 each-begun : (begun : Begun) → IsWellBegun begun → AllByRecursion IsLine (begun_lines begun)
 each-begun nothing h = tt
-each-begun head h = (IsLine-head, tt)
-each-begun (behind p) h = (IsLine-head, (IsLine-words p.words h.words, each-body p h))
+each-begun (head version) h = (IsLine-head version (h.1), tt)
+each-begun (behind p) h = (IsLine-head p.version (h.version.1), (IsLine-words p.words h.words, each-body p h))
 
 -- bad lines and bad bytes
 

@@ -1,40 +1,41 @@
 -- Why a text is refused, in the words of the format.
 use Rattle.std.specs.Prelude.{◌≡◌, ◌≢◌, ℕ, ◌+◌, ◌<◌, ◌≤◌, List, [], ◌∷◌, ◌++◌, length, Result, Ok, Err}
-use Rattle.test_lang.specs.declared.op.Op.{Op}
+use Rattle.test_lang.specs.declared.op.Action.{Action}
 use Rattle.test_lang.specs.declared.text.form.Form.{Form}
 use Rattle.test_lang.specs.declared.text.form.Form.TheVariants.{Thread, Operation}
 use Rattle.test_lang.specs.declared.text.fault.TestFault.{TestFault}
 use Rattle.test_lang.specs.declared.text.fault.TestFault.TheVariants.{BadHead, BadWords, BadLine, WordRange, TooManyThreads, TooManyOps, NoThread, NoEnd, Memory}
-use Rattle.test_lang.specs.Program.{Program, op_count, HasWord, IsWithinLimits}
+use Rattle.test_lang.specs.Actions.{op_of}
+use Rattle.test_lang.specs.Program.{Program, op_count, HasWord, IsVersion, IsWithinLimits}
 use Rattle.test_lang.specs.Text.Line.{IsLine, StartsWithLine, closed}
 use Rattle.test_lang.specs.Text.Form.{HasForm}
 use Rattle.test_lang.specs.Text.Grammar.{head_line, words_line, body_lines, StartsWithTest}
 
--- The good lines before a bad one: none, the first, or those of a test but its last.
+-- The good lines before a bad one: none, the first of a version, or those of a test but its last.
 pub data Begun : Type 0 where
   nothing : Begun
-  head : Begun
+  head : ℕ → Begun
   behind : Program → Begun
 
 abbrev pub begun_lines : Begun → List (List ℕ)
 begun_lines nothing = []
-begun_lines head = head_line ∷ []
-begun_lines (behind p) = head_line ∷ words_line p.words ∷ body_lines p
+begun_lines (head version) = head_line version ∷ []
+begun_lines (behind p) = head_line p.version ∷ words_line p.words ∷ body_lines p
 
 abbrev pub IsWellBegun : Begun → Type 0
 IsWellBegun nothing = Unit {0}
-IsWellBegun head = Unit {0}
+IsWellBegun (head version) = IsVersion version
 IsWellBegun (behind p) = IsWithinLimits p
 
 -- Why a line is bad behind the good ones, one row for each refusal.
 abbrev pub IsBadLine : TestFault → Begun → List ℕ → Type 0
-IsBadLine (BadHead number) nothing line = line ≢ head_line
-IsBadLine (BadWords number) head line = (n : ℕ) → 1 ≤ n → n ≤ 256 → line ≢ words_line n
-IsBadLine (BadLine number) (behind p) line = (form : Form) → ¬ HasForm line form
-IsBadLine (TooManyThreads number) (behind p) line = HasForm line Thread × (length p.threads ≡ 16)
-IsBadLine (NoThread number) (behind p) line = (form : Form) × HasForm line form × (form ≢ Thread) × (length p.threads ≡ 0)
-IsBadLine (WordRange number) (behind p) line = (op : Op) × HasForm line (Operation op) × (0 < length p.threads) × ¬ HasWord p op
-IsBadLine (TooManyOps number) (behind p) line = (op : Op) × HasForm line (Operation op) × (0 < length p.threads) × HasWord p op × (op_count p ≡ 2048)
+IsBadLine (BadHead number) nothing line = (version : ℕ) → IsVersion version → line ≢ head_line version
+IsBadLine (BadWords number) (head version) line = (n : ℕ) → 1 ≤ n → n ≤ 256 → line ≢ words_line n
+IsBadLine (BadLine number) (behind p) line = (form : Form) → ¬ HasForm p.version line form
+IsBadLine (TooManyThreads number) (behind p) line = HasForm p.version line Thread × (length p.threads ≡ 16)
+IsBadLine (NoThread number) (behind p) line = (form : Form) × HasForm p.version line form × (form ≢ Thread) × (length p.threads ≡ 0)
+IsBadLine (WordRange number) (behind p) line = (action : Action) × HasForm p.version line (Operation action) × (0 < length p.threads) × ¬ HasWord p (op_of action)
+IsBadLine (TooManyOps number) (behind p) line = (action : Action) × HasForm p.version line (Operation action) × (0 < length p.threads) × HasWord p (op_of action) × (op_count p ≡ 2048)
 IsBadLine fault begun line = ⊥
 
 -- The bytes behind the good lines are bad: no line of them is closed, or the first is bad.

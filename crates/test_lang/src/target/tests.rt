@@ -3,7 +3,7 @@ use crate::target::{Fault, Target, fits};
 
 const STALE: Fault = Fault::Stale { node: 3 };
 
-const ROWS: [(Target, Fault, bool); 18] = [
+const ROWS: [(Target, Fault, bool); 24] = [
     (Target::Sc, Fault::None, true),
     (Target::Sc, STALE, true),
     (Target::Sc, Fault::NoFence, false),
@@ -16,6 +16,12 @@ const ROWS: [(Target, Fault, bool); 18] = [
     (Target::Tso, Fault::Unordered, true),
     (Target::Tso, Fault::NoForward, true),
     (Target::Tso, Fault::LoadLoad, false),
+    (Target::Pso, Fault::None, true),
+    (Target::Pso, STALE, true),
+    (Target::Pso, Fault::NoFence, true),
+    (Target::Pso, Fault::Unordered, true),
+    (Target::Pso, Fault::NoForward, true),
+    (Target::Pso, Fault::LoadLoad, false),
     (Target::Weak, Fault::None, true),
     (Target::Weak, STALE, true),
     (Target::Weak, Fault::NoFence, true),

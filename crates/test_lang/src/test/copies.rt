@@ -11,6 +11,7 @@ impl Clone for Test {
     fn clone(&self) -> Result<Test, AllocError> {
         let alloc = *self.rows.allocator();
         Ok(Test {
+            version: self.version,
             words: self.words,
             rows: Vec::from_slice(alloc, &self.rows)?,
             load_nodes: Vec::from_slice(alloc, &self.load_nodes)?,

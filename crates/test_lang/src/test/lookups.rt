@@ -1,17 +1,18 @@
 //! What a test answers of a node, a thread, a value or a rank. Each answer is one read of a table.
 ghost use Rattle.std.specs.Prelude.{◌≡◌, ◌+◌, ◌<◌, ◌≤◌, ◌↔◌, length, IsTrue, Some, slice_get};
-ghost use Rattle.test_lang.specs.Program.{op_count, op_at, thread_at, first_node, thread_length, HasWord};
+ghost use Rattle.test_lang.specs.Actions.{op_of, allows_kind};
+ghost use Rattle.test_lang.specs.Program.{op_count, action_at, op_at, thread_at, first_node, thread_length, HasWord};
 ghost use Rattle.test_lang.specs.Tables.{Describes};
-ghost use Rattle.test_lang.specs.Values.{is_load_at, is_store_at, load_count, store_count, load_nodes, rank_of, value_of};
+ghost use Rattle.test_lang.specs.Values.{is_load_at, is_store_at, is_fence_at, load_count, store_count, load_nodes, rank_of, value_of};
 
-use crate::op::Op;
+use crate::op::{Action, FenceKind, Op};
 use crate::test::{Row, Test};
 
 impl Test {
     fn row(&self, node: u32) -> Row
         requires { node < op_count self.now }
         ensures row { Describes self.now node result }
-        ensures word { HasWord self.now result.op }
+        ensures word { HasWord self.now (op_of result.action) }
     {
         self.rows[node as usize]
     }
@@ -26,13 +27,43 @@ impl Test {
         }
     }
 
+    /// Whether the test may have fences of a kind.
+    pub fn allows_kind(&self, kind: FenceKind) -> bool
+        ensures { result ≡ allows_kind self.now.version kind }
+    {
+        match kind {
+            FenceKind::Full => true,
+            FenceKind::Store | FenceKind::Load => self.version == 2,
+        }
+    }
+
+    /// The action of a node.
+    pub fn action(&self, node: u32) -> Action
+        requires { node < op_count self.now }
+        ensures found { action_at self.now node ≡ Some result }
+        ensures word { HasWord self.now (op_of result) }
+    {
+        self.row(node).action
+    }
+
+    /// The kind of a fence.
+    pub fn fence_kind(&self, node: u32) -> FenceKind
+        requires { IsTrue (is_fence_at self.now node) }
+        ensures { action_at self.now node ≡ Some (Action.Fence result) }
+    {
+        match self.row(node).action {
+            Action::Fence { kind } => kind,
+            _ => unreachable!(),
+        }
+    }
+
     /// The operation of a node.
     pub fn op(&self, node: u32) -> Op
         requires { node < op_count self.now }
         ensures found { op_at self.now node ≡ Some result }
         ensures word { HasWord self.now result }
     {
-        self.row(node).op
+        self.row(node).action.op()
     }
 
     /// The thread of a node.

@@ -9,14 +9,14 @@ use thiserror::Error;
 /// refusal that applies is given, in the order that `specs/Text/Reading.antt` states.
 #[derive(Clone, Copy, PartialEq, Eq, Debug, Drop, Error)]
 pub enum TestFault {
-    /// The first line isn't `mtest 1`.
-    #[error("line {line}: expected `mtest 1`")]
+    /// The first line is neither `mtest 1` nor `mtest 2`.
+    #[error("line {line}: expected `mtest 1` or `mtest 2`")]
     BadHead { line: u32 },
     /// The second line isn't `words N`, with a number from 1 to 256.
     #[error("line {line}: expected `words` and a number from 1 to 256")]
     BadWords { line: u32 },
-    /// A later line is none of `thread`, `ld N`, `st N`, `fence` and `end`.
-    #[error("line {line}: expected `thread`, `ld N`, `st N`, `fence` or `end`")]
+    /// A later line is none of `thread`, `ld N`, `st N`, `fence` and `end`, nor, in version 2, of `fence st` and `fence ld`.
+    #[error("line {line}: expected `thread`, `ld N`, `st N`, `fence` or `end`, or in version 2 `fence st` or `fence ld`")]
     BadLine { line: u32 },
     /// A load or a store of a word that the test doesn't have.
     #[error("line {line}: no such word")]

@@ -17,7 +17,9 @@ pub fn judge(test: &Test, line: u32, form: Option<Form>) -> Result<Form, TestFau
         }
         Some(Form::Thread) => Ok(Form::Thread),
         Some(_) if test.threads() == 0 => Err(TestFault::NoThread { line }),
-        Some(Form::Operation(op)) if !test.has_word(op) => Err(TestFault::WordRange { line }),
+        Some(Form::Operation(action)) if !test.has_word(action.op()) => Err(TestFault::WordRange {
+            line,
+        }),
         Some(Form::Operation(_)) if test.ops() >= MAX_OPS => Err(TestFault::TooManyOps { line }),
         Some(form) => Ok(form),
     }

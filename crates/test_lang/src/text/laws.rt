@@ -30,7 +30,8 @@ pub fn numerals_are_read()
 
 /// The form that is read of a line is the form that it has.
 pub fn forms_are_read()
-    ensures { (line : List ℕ) (form : Form) → (form_of line ≡ Some form) ↔ HasForm line form }
+    ensures { (version : ℕ) (line : List ℕ) (form : Form) →
+        (form_of version line ≡ Some form) ↔ HasForm version line form }
 {}
 
 /// What reading a text gives is what the text means: the test with whose text it begins, or why it is refused.

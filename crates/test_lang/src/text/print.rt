@@ -4,10 +4,10 @@ ghost use Rattle.std.specs.Fmt.{decimal};
 ghost use Rattle.test_lang.specs.Program.{op_count};
 ghost use Rattle.test_lang.specs.Text.Line.{closed};
 ghost use Rattle.test_lang.specs.Text.Numeral.{part};
-ghost use Rattle.test_lang.specs.Text.Grammar.{op_line, thread_lines, test_text};
+ghost use Rattle.test_lang.specs.Text.Grammar.{action_line, thread_lines, test_text};
 ghost use Rattle.test_lang.specs.Text.Reading.{reading};
 
-use crate::op::Op;
+use crate::op::{Action, FenceKind};
 use crate::test::{MAX_OPS, Test};
 use itoa::Buffer;
 use std::alloc::{AllocError, Global};
@@ -25,14 +25,25 @@ fn push_numbered(out: &mut Vec<u8>, word: &[u8], number: u32) -> Result<(), Allo
     Ok(())
 }
 
-/// Adds the line of an operation.
-fn push_op(out: &mut Vec<u8>, op: Op) -> Result<(), AllocError>
-    ensures { OnOk result (out.new.items ≡ out.old.items ++ closed (op_line op ∷ [])) }
+/// The line of a fence, with its line feed.
+fn fence_line(kind: FenceKind) -> &'static [u8]
+    ensures { result.now ≡ closed (action_line (Action.Fence kind) ∷ []) }
 {
-    match op {
-        Op::Load { word } => push_numbered(out, b"ld", word),
-        Op::Store { word } => push_numbered(out, b"st", word),
-        Op::Fence => out.extend_from_slice(b"fence\n"),
+    match kind {
+        FenceKind::Full => b"fence\n",
+        FenceKind::Store => b"fence st\n",
+        FenceKind::Load => b"fence ld\n",
+    }
+}
+
+/// Adds the line of an action.
+fn push_action(out: &mut Vec<u8>, action: Action) -> Result<(), AllocError>
+    ensures { OnOk result (out.new.items ≡ out.old.items ++ closed (action_line action ∷ [])) }
+{
+    match action {
+        Action::Load { word } => push_numbered(out, b"ld", word),
+        Action::Store { word } => push_numbered(out, b"st", word),
+        Action::Fence { kind } => out.extend_from_slice(fence_line(kind)),
     }
 }
 
@@ -46,7 +57,7 @@ fn push_thread(out: &mut Vec<u8>, test: &Test, thread: u32) -> Result<(), AllocE
     out.extend_from_slice(b"thread\n")?;
     let first = test.first_of(thread);
     for place in 0..test.len_of(thread) {
-        push_op(out, test.op(first + place))?;
+        push_action(out, test.action(first + place))?;
     }
     Ok(())
 }
@@ -62,7 +73,8 @@ pub fn print(alloc: Global, test: &Test) -> Result<Vec<u8>, AllocError>
     ensures only { IfOk result (λ text. (bytes : List ℕ) → reading bytes ≡ Ok test.now
         → (rest : List ℕ) × (bytes ≡ text.items ++ rest)) }
 {
-    let mut out = Vec::from_slice(alloc, b"mtest 1\n")?;
+    let mut out = Vec::new(alloc);
+    push_numbered(&mut out, b"mtest", test.version())?;
     push_numbered(&mut out, b"words", test.words())?;
     for thread in 0..test.threads() {
         push_thread(&mut out, test, thread)?;

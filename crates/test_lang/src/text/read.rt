@@ -5,12 +5,12 @@ ghost use Rattle.test_lang.specs.Program.{Program, empty_program};
 ghost use Rattle.test_lang.specs.declared.text.fault.TestFault.TheVariants.{Memory};
 ghost use Rattle.test_lang.specs.Text.Line.{closed, lines_of};
 ghost use Rattle.test_lang.specs.Text.Grammar.{body_lines};
-ghost use Rattle.test_lang.specs.Text.Reading.{walk, words_of, reading};
+ghost use Rattle.test_lang.specs.Text.Reading.{walk, version_of, words_of, reading};
 ghost use Rattle.test_lang.specs.Text.Refusal.{IsRefused, TextMeans};
 ghost use Rattle.test_lang.specs.Text.Answer.{IsRead, Answers};
 ghost use Rattle.test_lang.specs.declared.text.fault.TestFault.{TestFault};
 
-use crate::test::{MAX_OPS, MAX_THREADS, MAX_WORDS, Test};
+use crate::test::{LAST_VERSION, MAX_OPS, MAX_THREADS, MAX_WORDS, Test};
 use crate::text::fault::TestFault;
 use crate::text::form::{Form, read_form};
 use crate::text::judge::judge;
@@ -29,6 +29,19 @@ pub struct ReadTest {
     pub used: usize,
     /// How many lines the text of the test has.
     pub lines: u32,
+}
+
+/// The version that the first line gives, or none where it has another form or there is no such version.
+fn read_version(line: &[u8]) -> Option<u32>
+    ensures { result ≡ version_of line.now }
+{
+    if line == b"mtest 1".as_slice() {
+        Some(1)
+    } else if line == b"mtest 2".as_slice() {
+        Some(2)
+    } else {
+        None
+    }
 }
 
 /// The number of words that the second line gives, or none where it has another form or the number is out of range.
@@ -50,27 +63,29 @@ struct Body<'a> {
 }
 
 /// Reads the lines behind the second, up to `end`.
-fn read_body(alloc: Global, text: &[u8], words: u32) -> Result<Body<'_>, TestFault>
+fn read_body(alloc: Global, text: &[u8], version: u32, words: u32) -> Result<Body<'_>, TestFault>
+    requires first { 1 ≤ version }
+    requires last { version ≤ LAST_VERSION }
     requires some { 1 ≤ words }
     requires few { words ≤ MAX_WORDS }
     ensures test { IfOk result
-        (λ body. walk (empty_program words) 3 (lines_of text.now) ≡ Ok body.test) }
+        (λ body. walk (empty_program version words) 3 (lines_of text.now) ≡ Ok body.test) }
     ensures last { IfOk result (λ body. body.last ≡ length (body_lines body.test) + 3) }
     ensures left { IfOk result
         (λ body. text.now ≡ closed (body_lines body.test ++ codes "end" ∷ []) ++ body.left.now) }
     ensures fault { IfErr result (λ fault. (fault ≡ Memory)
-        ⊎ (walk (empty_program words) 3 (lines_of text.now) ≡ Err fault)) }
+        ⊎ (walk (empty_program version words) 3 (lines_of text.now) ≡ Err fault)) }
 {
-    let mut test = Test::new(alloc, words);
+    let mut test = Test::new_version(alloc, version, words);
     let mut left = text;
     let mut line = 3;
     'body: loop {
         let Some((bytes, rest)) = first_line(left) else {
             return Err(TestFault::NoEnd { line });
         };
-        match judge(&test, line, read_form(bytes))? {
+        match judge(&test, line, read_form(version, bytes))? {
             Form::Thread => test.add_thread()?,
-            Form::Operation(op) => test.add_op(op)?,
+            Form::Operation(action) => test.add_action(action)?,
             Form::End => {
                 return Ok(Body {
                     test,
@@ -90,16 +105,16 @@ fn read_test(alloc: Global, bytes: &[u8]) -> Result<ReadTest, TestFault>
     let Some((head, rest)) = first_line(bytes) else {
         return Err(TestFault::NoEnd { line: 1 });
     };
-    if head != b"mtest 1".as_slice() {
+    let Some(version) = read_version(head) else {
         return Err(TestFault::BadHead { line: 1 });
-    }
+    };
     let Some((second, rest)) = first_line(rest) else {
         return Err(TestFault::NoEnd { line: 2 });
     };
     let Some(words) = read_words(second) else {
         return Err(TestFault::BadWords { line: 2 });
     };
-    let body = read_body(alloc, rest, words)?;
+    let body = read_body(alloc, rest, version, words)?;
     Ok(ReadTest {
         test: body.test,
         used: bytes.len() - body.left.len(),

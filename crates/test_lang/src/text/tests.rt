@@ -1,8 +1,8 @@
 //! Tests of reading and printing: texts written by hand, with what they say and how they are refused.
 
-use crate::op::Op;
+use crate::op::{Action, FenceKind};
 use crate::test::Test;
-use crate::test::tests::check_threads;
+use crate::test::tests::{build, check_threads};
 use crate::text::fault::TestFault;
 use crate::text::print::print;
 use crate::text::read::ReadTest;
@@ -10,22 +10,36 @@ use std::alloc::{AllocError, Global};
 use std::process::Abort;
 use std::test::Fail;
 
+const FULL: Action = Action::Fence {
+    kind: FenceKind::Full,
+};
+
+const STORE_FENCE: Action = Action::Fence {
+    kind: FenceKind::Store,
+};
+
+const LOAD_FENCE: Action = Action::Fence {
+    kind: FenceKind::Load,
+};
+
 /// Bytes that begin with the text of a test.
 struct Good {
     bytes: &'static [u8],
     used: usize,
     lines: u32,
+    version: u32,
     words: u32,
-    threads: &'static [&'static [Op]],
+    threads: &'static [&'static [Action]],
     first_nodes: &'static [u32],
 }
 
-const GOOD: [Good; 5] = [
+const GOOD: [Good; 7] = [
     // The shortest text.
     Good {
         bytes: b"mtest 1\nwords 1\nthread\nend\n",
         used: 27,
         lines: 4,
+        version: 1,
         words: 1,
         threads: &[&[]],
         first_nodes: &[0],
@@ -35,10 +49,11 @@ const GOOD: [Good; 5] = [
         bytes: b"mtest 1\nwords 2\nthread\nst 0\nld 1\nthread\nst 1\nld 0\nend\nrun 0 0\ndone\n",
         used: 54,
         lines: 9,
+        version: 1,
         words: 2,
         threads: &[
-            &[Op::Store { word: 0 }, Op::Load { word: 1 }],
-            &[Op::Store { word: 1 }, Op::Load { word: 0 }],
+            &[Action::Store { word: 0 }, Action::Load { word: 1 }],
+            &[Action::Store { word: 1 }, Action::Load { word: 0 }],
         ],
         first_nodes: &[0, 2],
     },
@@ -47,13 +62,9 @@ const GOOD: [Good; 5] = [
         bytes: b"mtest 1\nwords 10\nthread\nthread\nfence\nld 9\nfence\nthread\nthread\nfence\nend\n",
         used: 72,
         lines: 11,
+        version: 1,
         words: 10,
-        threads: &[
-            &[],
-            &[Op::Fence, Op::Load { word: 9 }, Op::Fence],
-            &[],
-            &[Op::Fence],
-        ],
+        threads: &[&[], &[FULL, Action::Load { word: 9 }, FULL], &[], &[FULL]],
         first_nodes: &[0, 0, 3, 3],
     },
     // The largest words, and a second end behind the first.
@@ -61,8 +72,9 @@ const GOOD: [Good; 5] = [
         bytes: b"mtest 1\nwords 256\nthread\nld 255\nst 100\nend\nend\n",
         used: 43,
         lines: 6,
+        version: 1,
         words: 256,
-        threads: &[&[Op::Load { word: 255 }, Op::Store { word: 100 }]],
+        threads: &[&[Action::Load { word: 255 }, Action::Store { word: 100 }]],
         first_nodes: &[0],
     },
     // Bytes behind the end are not looked at.
@@ -70,8 +82,41 @@ const GOOD: [Good; 5] = [
         bytes: b"mtest 1\nwords 1\nthread\nst 0\nend\n\xff\r\n ",
         used: 32,
         lines: 5,
+        version: 1,
         words: 1,
-        threads: &[&[Op::Store { word: 0 }]],
+        threads: &[&[Action::Store { word: 0 }]],
+        first_nodes: &[0],
+    },
+    // Fences of all kinds.
+    Good {
+        bytes: b"mtest 2\nwords 2\nthread\nst 0\nfence st\nst 1\nthread\nld 1\nfence ld\nld 0\nfence\nend\n",
+        used: 78,
+        lines: 12,
+        version: 2,
+        words: 2,
+        threads: &[
+            &[
+                Action::Store { word: 0 },
+                STORE_FENCE,
+                Action::Store { word: 1 },
+            ],
+            &[
+                Action::Load { word: 1 },
+                LOAD_FENCE,
+                Action::Load { word: 0 },
+                FULL,
+            ],
+        ],
+        first_nodes: &[0, 3],
+    },
+    // Version 2 without a fence of its own is another test than that of version 1.
+    Good {
+        bytes: b"mtest 2\nwords 1\nthread\nfence\nend\n",
+        used: 33,
+        lines: 5,
+        version: 2,
+        words: 1,
+        threads: &[&[FULL]],
         first_nodes: &[0],
     },
 ];
@@ -94,6 +139,7 @@ fn reads_and_prints(rt: HostRuntime) -> Result<(), Fail> {
         let read = read(rt.alloc(), good.bytes)?;
         assert!(rt; read.used == good.used);
         assert!(rt; read.lines == good.lines);
+        assert!(rt; read.test.version() == good.version);
         assert!(rt; read.test.words() == good.words);
         check_threads(&rt, &read.test, good.threads, good.first_nodes);
         assert!(rt; read.used <= good.bytes.len());
@@ -102,13 +148,28 @@ fn reads_and_prints(rt: HostRuntime) -> Result<(), Fail> {
     Ok(())
 }
 
+#[test]
+fn prints_a_load_fence(rt: HostRuntime) -> Result<(), Fail> {
+    let test = build(&rt, rt.alloc(), 2, 1, &[&[LOAD_FENCE]])?;
+    check_print(
+        &rt,
+        rt.alloc(),
+        &test,
+        b"mtest 2\nwords 1\nthread\nfence ld\nend\n",
+    )?;
+    Ok(())
+}
+
 /// Texts by the refusal that they get.
-const REFUSED: [(TestFault, &[&[u8]]); 11] = [
+const REFUSED: [(TestFault, &[&[u8]]); 12] = [
     // An unclosed line comes before all.
-    (TestFault::NoEnd { line: 1 }, &[b"", b"mtest 1", b"mtest 2"]),
+    (
+        TestFault::NoEnd { line: 1 },
+        &[b"", b"mtest 1", b"mtest 2", b"mtest 3"],
+    ),
     (
         TestFault::NoEnd { line: 2 },
-        &[b"mtest 1\n", b"mtest 1\nwords 999"],
+        &[b"mtest 1\n", b"mtest 2\n", b"mtest 1\nwords 999"],
     ),
     (
         TestFault::NoEnd { line: 4 },
@@ -123,7 +184,12 @@ const REFUSED: [(TestFault, &[&[u8]]); 11] = [
     (
         TestFault::BadHead { line: 1 },
         &[
-            b"mtest 2\n",
+            b"mtest 3\n",
+            b"mtest 0\n",
+            b"mtest 12\n",
+            b"mtest\n",
+            b"mtest 2 \n",
+            b"mtest 02\n",
             b"mtest 1 \n",
             b"mtest  1\n",
             b"mtest 01\n",
@@ -131,7 +197,7 @@ const REFUSED: [(TestFault, &[&[u8]]); 11] = [
             b"Mtest 1\n",
             b"\nmtest 1\n",
             b"\xef\xbb\xbfmtest 1\n",
-            b"mtest 2\nwords 0\n",
+            b"mtest 3\nwords 0\n",
         ],
     ),
     // The second line.
@@ -150,6 +216,7 @@ const REFUSED: [(TestFault, &[&[u8]]); 11] = [
             b"mtest 1\nwords\n",
             b"mtest 1\nthread\n",
             b"mtest 1\nwords 0\nld\n",
+            b"mtest 2\nwords 0\n",
         ],
     ),
     // The form of a later line comes before all that it says.
@@ -173,11 +240,27 @@ const REFUSED: [(TestFault, &[&[u8]]); 11] = [
             b"mtest 1\nwords 1\nthread\nEND\n",
             b"mtest 1\nwords 1\nthread\nend \n",
             b"mtest 1\nwords 1\nthread\n# end\n",
+            b"mtest 1\nwords 1\nthread\nfence st\n",
+            b"mtest 1\nwords 1\nthread\nfence ld\n",
+            b"mtest 2\nwords 1\nthread\nfence  st\n",
+            b"mtest 2\nwords 1\nthread\nfence st \n",
+            b"mtest 2\nwords 1\nthread\nfence s\n",
+            b"mtest 2\nwords 1\nthread\nfence full\n",
+            b"mtest 2\nwords 1\nthread\nfence 0\n",
         ],
     ),
     (
         TestFault::BadLine { line: 3 },
-        &[b"mtest 1\nwords 1\nld 00\n", b"mtest 1\nwords 1\nthread \n"],
+        &[
+            b"mtest 1\nwords 1\nld 00\n",
+            b"mtest 1\nwords 1\nthread \n",
+            b"mtest 1\nwords 1\nfence st\n",
+        ],
+    ),
+    // Message passing with partial fences under the head of version 1.
+    (
+        TestFault::BadLine { line: 5 },
+        &[b"mtest 1\nwords 2\nthread\nst 0\nfence st\nst 1\nthread\nld 1\nfence ld\nld 0\nend\n"],
     ),
     // Before the first thread, and there before the range of words.
     (
@@ -188,6 +271,9 @@ const REFUSED: [(TestFault, &[&[u8]]); 11] = [
             b"mtest 1\nwords 1\nfence\n",
             b"mtest 1\nwords 1\nend\n",
             b"mtest 1\nwords 1\nfence\nthread",
+            b"mtest 2\nwords 1\nfence st\n",
+            b"mtest 2\nwords 1\nfence ld\n",
+            b"mtest 2\nwords 1\nst 9\n",
         ],
     ),
     // The range of words.
@@ -233,7 +319,7 @@ struct Long {
     fault: Option<TestFault>,
 }
 
-const LONG: [Long; 14] = [
+const LONG: [Long; 17] = [
     Long {
         front: b"mtest 1\nwords 1\n",
         piece: b"thread\n",
@@ -276,6 +362,28 @@ const LONG: [Long; 14] = [
         times: 2048,
         back: b"st 0\n",
         fault: Some(TestFault::TooManyOps { line: 2052 }),
+    },
+    // The form comes before the number of operations.
+    Long {
+        front: b"mtest 1\nwords 1\nthread\n",
+        piece: b"fence\n",
+        times: 2048,
+        back: b"fence st\n",
+        fault: Some(TestFault::BadLine { line: 2052 }),
+    },
+    Long {
+        front: b"mtest 2\nwords 1\nthread\n",
+        piece: b"fence st\n",
+        times: 2048,
+        back: b"fence ld\n",
+        fault: Some(TestFault::TooManyOps { line: 2052 }),
+    },
+    Long {
+        front: b"mtest 2\nwords 1\nthread\n",
+        piece: b"fence ld\n",
+        times: 2048,
+        back: b"end\n",
+        fault: None,
     },
     // The range of words comes before the number of operations.
     Long {

@@ -13,6 +13,6 @@ loop-node-preserved c =
     let n = c.loop-node.node in
     record {
       added = into_more c.args.model p n c.args.graph.now c.loop-node.graph c.add_into.new.graph c.loop-node.invariant.added c.add_into.ensures;
-      told = tells_last p n c.op-op.result c.meet.new.self c.op-op.ensures.found (c.meet.ensures.told (last_node p n) c.loop-node.invariant.told);
+      told = tells_last p n c.action-action.result c.meet.new.self c.action-action.ensures.found (c.meet.ensures.told (last_node p n) c.loop-node.invariant.told);
       words = c.meet.ensures.room ∙ c.loop-node.invariant.words;
     }

@@ -9,18 +9,18 @@ pub in_thread-requires-clause-found : goal.in_thread-requires-clause-found
 in_thread-requires-clause-found c = λ x e.
     let p = c.args.test.now in
     let node = c.requires.node in
-    last_node-below p c.args.node (is_kind c.args.kind c.args.op) x (omega (arith, node)) (sym (c.of.ensures (last_node p c.args.node) c.requires.told) ∙ e)
+    last_node-below p c.args.node (is_kind c.args.kind c.args.action) x (omega (arith, node)) (sym (c.of.ensures (last_node p c.args.node) c.requires.told) ∙ e)
 
 pub returns-clause-last : goal.returns-clause-last
 returns-clause-last c =
     let p = c.args.test.now in
     c.in_thread.ensures
     ∙ ap (in_thread p c.args.node) (c.of.ensures (last_node p c.args.node) c.requires.told)
-    ∙ last_of_kind_told p c.args.kind c.args.node c.args.op c.requires.op
+    ∙ last_of_kind_told p c.args.kind c.args.node c.args.action c.requires.action
 
 pub returns-clause-below : goal.returns-clause-below
 returns-clause-below c =
     let p = c.args.test.now in
     subst (λ (found : Option ℕ). IfSome found (λ k. k < op_count p)) (sym c.in_thread.ensures) (in_thread-below p c.args.node c.of.result (λ x e.
     let node = c.requires.node in
-    last_node-below p c.args.node (is_kind c.args.kind c.args.op) x (omega (arith, node)) (sym (c.of.ensures (last_node p c.args.node) c.requires.told) ∙ e)))
+    last_node-below p c.args.node (is_kind c.args.kind c.args.action) x (omega (arith, node)) (sym (c.of.ensures (last_node p c.args.node) c.requires.told) ∙ e)))

@@ -1,10 +1,10 @@
 use Rattle.std.proofs.Common.{◌≡◌, ◌≤◌, ℕ}
 use Rattle.std.specs.Prelude.{Some}
-use Rattle.test_lang.specs.declared.op.Op.{Op}
-use Rattle.test_lang.specs.Program.{op_at, op_count}
+use Rattle.test_lang.specs.declared.op.Action.{Action}
+use Rattle.test_lang.specs.Program.{action_at, op_count}
 use Rattle.digraph.specs.Marks.{MarksWhere}
 use Rattle.graph_model.specs.WordLoads.{last_load}
-use Rattle.graph_model.proofs.RunSources.{Before}
+use Rattle.graph_model.proofs.RunSources.{GivesItself}
 use Rattle.graph_model.proofs.WordLoads.{above}
 use Rattle.graph_model.proofs.run_sources.mark_loads_before.Given as goal
 
@@ -12,10 +12,10 @@ abbrev pub invariant-loop-next : goal.invariant-loop-next
 invariant-loop-next l = record {
   from : ℕ;
   within : from ≤ op_count l.test;
-  op : Op;
-  found : op_at l.test l.store ≡ Some op;
-  next_is : l.next ≡ last_load l.test from op;
-  marked : MarksWhere (λ a. (from ≤ a) × Before l.test l.run a l.store) l.mark l.fn.marks l.marks;
+  action : Action;
+  found : action_at l.test l.store ≡ Some action;
+  next_is : l.next ≡ last_load l.test from action;
+  marked : MarksWhere (λ a. (load : ℕ) × (from ≤ load) × GivesItself l.test l.run l.store load a) l.mark l.fn.marks l.marks;
 }
 
 abbrev pub decreases-loop-next : goal.decreases-loop-next

@@ -1,5 +1,5 @@
 use Rattle.std.proofs.Common.{◌∷◌, [], refl}
-use Rattle.test_lang.specs.declared.op.MemModel.TheVariants.{Sc, Tso, Weak}
+use Rattle.test_lang.specs.declared.op.MemModel.TheVariants.{Sc, Tso, Pso, Weak}
 use Rattle.test_lang.specs.Litmus.{store_buffering_fences}
 use Rattle.test_lang.proofs.Examples.{canonical_cycle}
 use Rattle.test_lang.proofs.litmus.store_buffering_with_fences.Goals as goal
@@ -12,3 +12,6 @@ returns-clause-tso c = canonical_cycle Tso store_buffering_fences (0 ∷ 0 ∷ [
 
 pub returns-clause-weak : goal.returns-clause-weak
 returns-clause-weak c = canonical_cycle Weak store_buffering_fences (0 ∷ 0 ∷ []) (0 ∷ 1 ∷ 2 ∷ 3 ∷ 4 ∷ 5 ∷ []) refl
+
+pub returns-clause-pso : goal.returns-clause-pso
+returns-clause-pso c = canonical_cycle Pso store_buffering_fences (0 ∷ 0 ∷ []) (0 ∷ 1 ∷ 2 ∷ 3 ∷ 4 ∷ 5 ∷ []) refl

@@ -1,5 +1,6 @@
-use Rattle.std.proofs.Common.{◌≤◌, ◌<◌, ◌+◌, ℕ, length, subst, ap, ◌∙◌, take}
+use Rattle.std.proofs.Common.{◌≤◌, ◌<◌, ℕ, subst, ap, ◌∙◌, take}
 use Rattle.test_lang.specs.Values.{load_count}
+use Rattle.graph_model.specs.LoadEdges.{load_edge_room}
 use Rattle.graph_model.specs.StaticGraph.{StaticGraph}
 use Rattle.graph_model.proofs.RunGraphs.{loads_more, loads_all, few_more}
 use Rattle.graph_model.proofs.static_graph.Static.put_loads.Goals as goal
@@ -7,7 +8,7 @@ use Rattle.graph_model.proofs.static_graph.Static.put_loads.Goals as goal
 pub loop-rank-preserved : goal.loop-rank-preserved
 loop-rank-preserved c =
     let s = c.args.self.now in
-    let each : ℕ = 2 + length s.test.threads in
+    let each : ℕ = load_edge_room s.test in
     let before = c.loop-rank in
     let after = c.put_load-count in
     let count = c.loads-rank-end.ensures.count ∙ ap (λ (s : StaticGraph). load_count s.test) c.self.view_is in

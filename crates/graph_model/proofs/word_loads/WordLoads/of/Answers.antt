@@ -1,7 +1,7 @@
 use Rattle.std.proofs.Common.{◌∙◌, ◌≡◌, ℕ, arith, subst, length-set}
 use Rattle.graph_model.specs.NearestNodes.{Tells, last_node}
 use Rattle.graph_model.proofs.Passes.{tells_last}
-use Rattle.graph_model.proofs.WordLoads.{loads_more, op_at-below}
+use Rattle.graph_model.proofs.WordLoads.{loads_more, action_at-below}
 use Rattle.graph_model.proofs.word_loads.WordLoads.of.Goals as goal
 
 pub loop-node-preserved : goal.loop-node-preserved
@@ -12,9 +12,9 @@ loop-node-preserved c =
     let room = i.room in
     record {
       words = c.meet.ensures.room ∙ i.words;
-      told = tells_last p n c.op-op.result c.meet.new.self c.op-op.ensures.found (c.meet.ensures.told (last_node p n) i.told);
+      told = tells_last p n c.action-action.result c.meet.new.self c.action-action.ensures.found (c.meet.ensures.told (last_node p n) i.told);
       room = length-set c.loop-node.before.items n c.of.result ∙ i.room;
-      each = loads_more p n c.loop-node.before.items c.of.result c.op-op.result (omega (arith, room, c.loop-node-test.true, c.ops-node-end.ensures.count)) c.op-op.ensures.found (c.of.ensures (last_node p n) i.told) i.each;
+      each = loads_more p n c.loop-node.before.items c.of.result c.action-action.result (omega (arith, room, c.loop-node-test.true, c.ops-node-end.ensures.count)) c.action-action.ensures.found (c.of.ensures (last_node p n) i.told) i.each;
     }
 
 pub returns : goal.returns
@@ -27,5 +27,5 @@ returns c =
       words = i.words;
       last = subst (λ (n : ℕ). Tells (last_node p n) c.loop-node.last) (all ∙ count) i.told;
       room = i.room;
-      before = λ n op e. let below = op_at-below p n op e in i.each n op (omega (arith, below, all, count)) e;
+      before = λ n action e. let below = action_at-below p n action e in i.each n action (omega (arith, below, all, count)) e;
     }

@@ -6,4 +6,4 @@ use Rattle.test_lang.proofs.text.print.print.Given as goal
 
 -- The lines of the threads so far stand behind the first two.
 abbrev pub invariant-loop-thread : goal.invariant-loop-thread
-invariant-loop-thread l = l.out.items ≡ closed (head_line ∷ words_line l.test.words ∷ flat_map thread_lines (take l.thread l.test.threads))
+invariant-loop-thread l = l.out.items ≡ closed (head_line l.test.version ∷ words_line l.test.words ∷ flat_map thread_lines (take l.thread l.test.threads))
