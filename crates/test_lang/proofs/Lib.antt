@@ -16,3 +16,4 @@ pub mod Tabulated
 pub mod Steps
 pub mod CandidateKinds
 pub mod TextLemmas
+pub mod PlayLaws

@@ -10,4 +10,5 @@ pub mod Edges
 pub mod EdgeList
 pub mod Litmus
 pub mod Targets
+pub mod Play
 pub mod Text

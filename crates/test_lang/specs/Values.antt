@@ -2,7 +2,8 @@
 use Rattle.std.specs.Prelude.{ℕ, ◌+◌, List, Bool, true, false, ◌&&◌, ◌==◌, take, filter, count_by}
 use Rattle.test_lang.specs.declared.op.Op.{Op}
 use Rattle.test_lang.specs.declared.op.Op.TheVariants.{Load, Store, Fence}
-use Rattle.test_lang.specs.Program.{Program, nodes, all_nodes, at_node, at_nodes}
+use Rattle.std.specs.Option.{option_map_or}
+use Rattle.test_lang.specs.Program.{Program, nodes, all_nodes, op_at, at_node, at_nodes}
 
 abbrev pub is_load : Op → Bool
 is_load (Load word) = true
@@ -37,7 +38,13 @@ same_word (Load word) b = is_of word b
 same_word (Store word) b = is_of word b
 same_word Fence b = false
 
--- the same tests of nodes
+-- the word of a load or a store; a fence has none, and 0 stands in its place
+abbrev pub word_of : Op → ℕ
+word_of (Load word) = word
+word_of (Store word) = word
+word_of Fence = 0
+
+-- the same of nodes
 
 abbrev pub is_load_at : Program → ℕ → Bool
 is_load_at p n = at_node (λ node. is_load node.1) p n
@@ -53,6 +60,9 @@ same_thread p a b = at_nodes (λ first second. first.0 == second.0) p a b
 
 abbrev pub one_word : Program → ℕ → ℕ → Bool
 one_word p a b = at_nodes (λ first second. same_word first.1 second.1) p a b
+
+abbrev pub word_at : Program → ℕ → ℕ
+word_at p n = option_map_or word_of (op_at p n) 0
 
 -- how many loads a test has
 abbrev pub load_count : Program → ℕ

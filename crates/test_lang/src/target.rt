@@ -7,9 +7,9 @@ ghost use Rattle.test_lang.specs.Targets.{fits};
 pub enum Target {
     /// Each operation takes effect at once, in the order of its thread.
     Sc,
-    /// Stores wait in a buffer of their thread, and leave it in order.
+    /// Stores and store fences wait in a buffer of their thread, and leave it in order.
     Tso,
-    /// Stores wait in a buffer of their thread, and those to different words leave it in any order.
+    /// Stores and store fences wait in a buffer of their thread. Stores to different words leave it in any order, but none passes a store fence.
     Pso,
     /// Operations of a thread take effect in any order that the weak model allows.
     Weak,
@@ -20,7 +20,7 @@ pub enum Target {
 pub enum Fault {
     None,
     /// The load with this node gives the value before the one that stands in memory. The fault acts where the load reads memory: a load that
-    /// finds its word in its own buffer isn't touched by it.
+    /// gives a store of its own thread which hasn't reached memory isn't touched by it.
     Stale { node: u32 },
     /// Fences order nothing.
     NoFence,

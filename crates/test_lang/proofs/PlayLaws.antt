@@ -1,0 +1,19 @@
+-- Lemmas about plays.
+pub mod Lasts
+pub mod Counts
+pub mod Firsts
+pub mod Moves
+pub mod StepsLeft
+pub mod Weaker
+pub mod GivenRuns
+pub mod GoingOn
+pub mod ChoiceLists
+pub mod Words
+pub mod Giving
+pub mod Edges
+pub mod Inside
+pub mod Sound
+pub mod Buffers
+pub mod DirectPlays
+pub mod BufferedPlays
+pub mod Explaining
