@@ -4,3 +4,4 @@ pub mod MemSink
 pub mod MemSource
 pub mod Sink
 pub mod Source
+pub mod Words

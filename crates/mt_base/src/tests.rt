@@ -1,4 +1,4 @@
-//! Sources and sinks in memory, told by tables: what each call answers, and what was taken or is held then.
+//! Sources and sinks in memory, told by tables: what each call answers, and what was taken or is held then. Draws, by their words.
 use super::*;
 use std::alloc::{AllocError, Global};
 use std::test::Fail;
@@ -181,5 +181,77 @@ fn what_is_in_memory_answers_as_it_is_told(rt: HostRuntime) -> Result<(), Fail> 
     assert_eq!(rt; first_wrong_sink(rt.alloc())?, None);
     // An open gate lets everyone pass.
     pass(&OpenGate);
+    Ok(())
+}
+
+/// Numbers, each with what the next draw below it gives.
+struct Drawn {
+    seed: u64,
+    stream: u64,
+    draws: &'static [(u32, u32)],
+}
+
+const DRAWN: [Drawn; 5] = [
+    // The words that the demonstration of PCG's reference code prints: none is 2^32 - 1, so each is its own rest.
+    Drawn {
+        seed: 42,
+        stream: 54,
+        draws: &[
+            (u32::MAX, 0xa15c02b7),
+            (u32::MAX, 0x7b47f409),
+            (u32::MAX, 0xba1d3330),
+            (u32::MAX, 0x83d2f293),
+            (u32::MAX, 0xbfa4784b),
+            (u32::MAX, 0xcbed606e),
+        ],
+    },
+    Drawn {
+        seed: 42,
+        stream: 54,
+        draws: &[(3, 0), (3, 0), (3, 2)],
+    },
+    Drawn {
+        seed: 42,
+        stream: 54,
+        draws: &[(2, 1), (3, 0), (4, 0), (3, 1), (2, 1), (1, 0)],
+    },
+    // Words by another program of the published recurrence.
+    Drawn {
+        seed: 0,
+        stream: 0,
+        draws: &[
+            (u32::MAX, 3837872008),
+            (u32::MAX, 932996374),
+            (u32::MAX, 1548399547),
+        ],
+    },
+    Drawn {
+        seed: u64::MAX,
+        stream: u64::MAX,
+        draws: &[
+            (u32::MAX, 645251143),
+            (u32::MAX, 2004461623),
+            (u32::MAX, 2705697299),
+        ],
+    },
+];
+
+/// Whether each draw gives what the row says, where a copy goes on after each.
+fn draws_so(row: &Drawn) -> Result<bool, AllocError> {
+    let mut draws = Draws::new(row.seed, row.stream);
+    for (n, number) in row.draws {
+        if *n == 0 || draws.below(*n) != *number {
+            return Ok(false);
+        }
+        draws = draws.clone()?;
+    }
+    Ok(true)
+}
+
+#[test]
+fn draws_are_the_words_of_a_seed_and_a_stream(rt: HostRuntime) -> Result<(), Fail> {
+    for row in &DRAWN {
+        assert!(rt; draws_so(row)?);
+    }
     Ok(())
 }
