@@ -38,7 +38,7 @@ IsCounts-more old new outcome times h some e = subst IsCounts (sym e) record {
 }
 
 -- an outcome at the end of the list is one more place for itself alone
-occurrences-push : (outcomes : List Outcome) (outcome other : Outcome) → occurrences (outcomes ++ outcome ∷ []) other ≡ occurrences outcomes other + cond (outcome_eq other outcome) 1 0
+pub occurrences-push : (outcomes : List Outcome) (outcome other : Outcome) → occurrences (outcomes ++ outcome ∷ []) other ≡ occurrences outcomes other + cond (outcome_eq other outcome) 1 0
 occurrences-push outcomes outcome other = omega (arith, sum_by-append (λ x. cond (outcome_eq other x) 1 0) outcomes (outcome ∷ []))
 
 -- what counting an outcome more often does to the count of another

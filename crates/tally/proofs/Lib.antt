@@ -4,3 +4,4 @@ pub mod OneTally
 pub mod PlacedRows
 pub mod Putting
 pub mod RowsInLine
+pub mod Shrinking

@@ -3,3 +3,4 @@ pub mod OutcomeLaws
 pub mod Tallies
 pub mod Counting
 pub mod Rows
+pub mod Histories

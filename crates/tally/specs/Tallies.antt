@@ -1,8 +1,8 @@
 -- Tallies: how often each outcome occurs in a list.
-use Rattle.std.specs.Prelude.{◌≡◌, ℕ, ◌+◌, ◌≤◌, List, [], ◌∷◌, All, count_by, sum, unwrap_or}
+use Rattle.std.specs.Prelude.{◌≡◌, ℕ, ◌+◌, ◌-◌, ◌≤◌, ◌==◌, List, [], ◌∷◌, All, count_by, sum, unwrap_or, if◌then◌else◌}
 use Rattle.std.specs.BTreeMap.{insert_entry}
 use Rattle.std.specs.List.Sorted.{IsStrictlySortedBy}
-use Rattle.std.specs.Map.{keys_of, values_of, lookup}
+use Rattle.std.specs.Map.{keys_of, values_of, lookup, remove_entry}
 use Rattle.tally.specs.declared.outcome.Outcome.{Outcome}
 use Rattle.tally.specs.Outcomes.{outcome_eq, outcome_cmp}
 
@@ -35,6 +35,10 @@ with_more pairs outcome times = insert_entry outcome_cmp pairs outcome (count_of
 -- the count of the outcome is one greater, and all else stays; an outcome that isn't there goes to its place in the order with the count 1
 abbrev pub with_one_more : List (Outcome × ℕ) → Outcome → List (Outcome × ℕ)
 with_one_more pairs outcome = with_more pairs outcome 1
+
+-- the count of the outcome is one less, and all else stays; an outcome whose count was 1 is gone
+abbrev pub with_one_less : List (Outcome × ℕ) → Outcome → List (Outcome × ℕ)
+with_one_less pairs outcome = if count_of pairs outcome == 1 then remove_entry (outcome_eq outcome) pairs else insert_entry outcome_cmp pairs outcome (count_of pairs outcome - 1)
 
 -- the outcomes of the list are counted, each once more for each of its places
 abbrev pub with_each : List (Outcome × ℕ) → List Outcome → List (Outcome × ℕ)

@@ -2,7 +2,7 @@
 ghost use Rattle.std.specs.Prelude.{◌≡◌, ℕ, ◌+◌, ◌-◌, ◌^◌, ◌<◌, ◌≤◌, List, [], ◌∷◌, ◌++◌, length, OnOk, IfErr};
 ghost use Rattle.std.specs.Bool.{OnTrue, OnFalse};
 ghost use Rattle.tally.specs.declared.outcome.Outcome.{Outcome};
-ghost use Rattle.tally.specs.Tallies.{IsCounts, IsTally, total_of, with_more, with_one_more};
+ghost use Rattle.tally.specs.Tallies.{IsCounts, IsTally, count_of, total_of, with_more, with_one_less, with_one_more};
 
 use crate::outcome::Outcome;
 use std::alloc::Global;
@@ -59,6 +59,20 @@ impl Tally {
         Ok(())
     }
 
+    /// Takes one place of the outcome away. It takes no memory.
+    pub fn take_back(&mut self, outcome: &Outcome)
+        requires { 1 ≤ count_of self.old outcome.now }
+        ensures taken { self.new ≡ with_one_less self.old outcome.now }
+        ensures total { total_of self.new + 1 ≡ total_of self.old }
+        // The tally of a list with this outcome at its end becomes the tally of the list without it.
+        ensures tally { (outcomes : List Outcome) → IsTally (outcomes ++ outcome.now ∷ []) self.old →
+            IsTally outcomes self.new }
+        ensures sound { IsCounts self.new }
+    {
+        take_one_back(&mut self.counts, outcome);
+        self.total -= 1;
+    }
+
     /// Counts so many more places of the outcome at once.
     /// `Err` means want of memory; it hands the outcome back, and the tally is as before.
     pub(crate) fn add_times(&mut self, outcome: Outcome, times: u64) -> Result<(), Outcome>
@@ -88,6 +102,13 @@ impl Tally {
             }
             None => false,
         }
+    }
+
+    /// How often the outcome was added; 0 where it isn't there. It takes no memory.
+    pub fn count(&self, outcome: &Outcome) -> u64
+        ensures { result ≡ count_of self.now outcome.now }
+    {
+        count(&self.counts, outcome)
     }
 
     /// The pairs of an outcome and its count, in the order of outcomes.
@@ -126,6 +147,27 @@ fn add_times(
             Ok(())
         }
         Err(refused) => Err(refused.value),
+    }
+}
+
+fn count(counts: &BTreeMap<Outcome, u64>, outcome: &Outcome) -> u64
+    ensures { result ≡ count_of counts.now.entries outcome.now }
+{
+    match counts.get(outcome) {
+        Some(count) => *count,
+        None => 0,
+    }
+}
+
+fn take_one_back(counts: &mut BTreeMap<Outcome, u64>, outcome: &Outcome)
+    requires counts { IsCounts counts.old.entries }
+    requires there { 1 ≤ count_of counts.old.entries outcome.now }
+    ensures { counts.new.entries ≡ with_one_less counts.old.entries outcome.now }
+{
+    if count(counts, outcome) == 1 {
+        counts.remove(outcome);
+    } else if let Some(count) = counts.get_mut(outcome) {
+        *count -= 1;
     }
 }
 

@@ -14,7 +14,23 @@ pub enum Outcome {
 }
 
 impl Outcome {
-    ghost use Rattle.std.specs.Prelude.{◌≡◌, OnOk};
+    ghost use Rattle.std.specs.Prelude.{◌≡◌, IfOk, OnOk};
+
+    /// An equal outcome. `Err` means want of memory.
+    pub fn copy(&self, alloc: Global) -> Result<Outcome, AllocError>
+        ensures { IfOk result (λ copy. copy ≡ self.now) }
+    {
+        match self {
+            Outcome::Inside(signature) => {
+                let signature = Signature::of(alloc, signature.words())?;
+                Ok(Outcome::Inside(signature))
+            }
+            Outcome::Outside { node, value } => Ok(Outcome::Outside {
+                node: *node,
+                value: *value,
+            }),
+        }
+    }
 
     /// Makes this the inside outcome of the signature with these words. It takes no memory where it has held a signature as long.
     /// `Err` means want of memory.

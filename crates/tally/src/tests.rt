@@ -158,3 +158,44 @@ fn equal_outcomes_are_joined_wherever_they_stand(rt: HostRuntime) -> Result<(), 
     }
     Ok(())
 }
+
+const COUNTED_FIRST: [Row; 4] = [
+    Row::Inside(&[2, 1]),
+    Row::Outside(3, 1),
+    Row::Inside(&[2, 1]),
+    Row::Outside(2, 9),
+];
+
+/// Outcomes that are taken back, whether all of them were there, and what the tally has then.
+const TAKEN_BACK: [(&[Row], bool, &str); 3] = [
+    (
+        &[Row::Inside(&[2, 1]), Row::Outside(3, 1)],
+        true,
+        "2: [2, 1] 1; 2 9 1;",
+    ),
+    (&[Row::Outside(3, 1)], false, "2: [2, 1] 1; 2 9 1;"),
+    (&[Row::Outside(2, 9), Row::Inside(&[2, 1])], true, "0:"),
+];
+
+/// Takes back copies of the outcomes, one after another, up to one that isn't there; whether all were.
+fn take_back(alloc: Global, tally: &mut Tally, rows: &[Row]) -> Result<bool, AllocError> {
+    for row in rows {
+        let outcome = outcome_of(alloc, row)?.copy(alloc)?;
+        if tally.count(&outcome) == 0 {
+            return Ok(false);
+        }
+        tally.take_back(&outcome);
+    }
+    Ok(true)
+}
+
+#[test]
+fn what_is_taken_back_is_counted_no_more(rt: HostRuntime) -> Result<(), Fail> {
+    let mut tally = Tally::new(rt.alloc());
+    add_all(rt.alloc(), &mut tally, &COUNTED_FIRST)?;
+    for (rows, there, text) in &TAKEN_BACK {
+        assert_eq!(rt; take_back(rt.alloc(), &mut tally, rows)?, *there);
+        assert_eq!(rt; shown(rt.alloc(), &tally)?.as_str(), *text);
+    }
+    Ok(())
+}
