@@ -9,3 +9,9 @@ pub mod Ended
 pub mod Turns
 pub mod Runs
 pub mod Calls
+pub mod NextLines
+pub mod StepTexts
+pub mod ScheduleForms
+pub mod ScheduleMeaning
+pub mod ReadParts
+pub mod KeptSteps

@@ -16,15 +16,18 @@ use Rattle.run_text.specs.Grammar.{AreNumerals, values_of, run_line, StartsWithR
 use Rattle.run_text.proofs.Judging.{judged-by}
 use Rattle.run_text.proofs.RunForms.{run_values-spelled, run_values-spelling, IsLine-run_line, all_fit-true, all_fit-false, all_fit-of, all_fit-of_large}
 
-not_done : (line : List ℕ) → bytes_eq line (codes "done") ≡ false → line ≢ codes "done"
+pub not_done : (line : List ℕ) → bytes_eq line (codes "done") ≡ false → line ≢ codes "done"
 not_done line e same = let h = (bytes_eq-Decides line (codes "done")).1 same in cc
 
-is_not_done : (line : List ℕ) → line ≢ codes "done" → bytes_eq line (codes "done") ≡ false
-is_not_done line other = go (bytes_eq line (codes "done")) refl
+pub is_other_text : (line text : List ℕ) → line ≢ text → bytes_eq line text ≡ false
+is_other_text line text other = go (bytes_eq line text) refl
   where
-    go : (b : Bool) → bytes_eq line (codes "done") ≡ b → b ≡ false
-    go true e = absurd (other ((bytes_eq-Decides line (codes "done")).0 e))
+    go : (b : Bool) → bytes_eq line text ≡ b → b ≡ false
+    go true e = absurd (other ((bytes_eq-Decides line text).0 e))
     go false e = refl
+
+pub is_not_done : (line : List ℕ) → line ≢ codes "done" → bytes_eq line (codes "done") ≡ false
+is_not_done line other = is_other_text line (codes "done") other
 
 pub IsLine-done : IsLine (codes "done")
 IsLine-done = (λ same. absurd (omega arith), (λ same. absurd (omega arith), (λ same. absurd (omega arith), (λ same. absurd (omega arith), tt))))

@@ -5,3 +5,8 @@ pub mod Reader
 pub mod Grammar
 pub mod Items
 pub mod Runs
+pub mod NextLine
+pub mod Steps
+pub mod ReadSteps
+pub mod ScheduleReader
+pub mod ScheduleGrammar

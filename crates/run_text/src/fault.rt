@@ -1,20 +1,20 @@
-//! How a text of runs is refused.
+//! How a text of runs or of schedules is refused.
 
 use thiserror::Error;
 
-/// The refusal of a text of runs: that of its first bad line, whose number counts from the first line of the input. On
-/// one line the first refusal that applies is given, in this order: `NoDone`, `BadRunLine`, `WrongCount`, `ValueRange`;
-/// behind `done` there is only `AfterDone`.
+/// The refusal of a text of runs or of schedules: that of its first bad line, whose number counts from the first line of
+/// the input. On one line the first refusal that applies is given, in this order: `NoDone`, `BadRunLine`, `WrongCount`,
+/// `ValueRange`; behind `done` there is only `AfterDone`.
 #[derive(Clone, Copy, PartialEq, Eq, Debug, Drop, Error)]
 pub enum RunFault {
-    /// The line is neither `done`, nor `run` followed by parts that are each one space and a numeral.
-    #[error("line {line}: expected `done`, or `run` and numbers")]
+    /// The line is neither `done` nor a run line; in a text of schedules, nor a schedule line.
+    #[error("line {line}: neither `done` nor a line of this text")]
     BadRunLine { line: u32 },
-    /// A run line has `got` values, and the test has `want` loads.
+    /// A run line has `got` values, and the test has `want` loads. It is never that of a schedule line.
     #[error("line {line}: expected {want} values, got {got}")]
     WrongCount { line: u32, want: u32, got: u32 },
-    /// A value is above 4294967295.
-    #[error("line {line}: a value is too large")]
+    /// A numeral is above 4294967295.
+    #[error("line {line}: a number is too large")]
     ValueRange { line: u32 },
     /// No line feed closes the line.
     #[error("line {line}: the text ends before `done`")]

@@ -1,16 +1,15 @@
 //! A reader of run lines, up to the line `done`: one pass over the bytes, and no memory but that of the values.
-ghost use Rattle.std.specs.Prelude.{◌≡◌, ◌≢◌, ◌+◌, ◌^◌, ◌<◌, [], Result, Ok, false, length, OnOk, IfErr};
+ghost use Rattle.std.specs.Prelude.{◌≡◌, ◌+◌, ◌^◌, ◌<◌, Result, Ok, false, length};
 ghost use Rattle.std.specs.Bool.{OnFalse, OnTrue};
 ghost use Rattle.run_text.specs.declared.fault.RunFault.{RunFault};
-ghost use Rattle.run_text.specs.declared.fault.RunFault.TheVariants.{AfterDone};
 ghost use Rattle.run_text.specs.Reader.{Turn, Gives, turn};
 ghost use Rattle.run_text.specs.Grammar.{CallMeans};
 ghost use Rattle.run_text.specs.Runs.{ReadsOn};
 
 use crate::fault::RunFault;
+use crate::next_line::next_line;
 use crate::run_line::read_run;
 use std::marker::Model;
-use test_lang::text::line::first_line;
 
 /// The run lines of a text, each with as many values as a test has loads.
 #[derive(Drop)]
@@ -31,18 +30,6 @@ impl<'a> Model for RunLines<'a> {
         record { left = lines.left.now; line = lines.line; loads = lines.loads; is_done = lines.is_done } };
 
     ghost invariant = { λ lines. lines.line + length lines.left.now < 2 ^ 32 };
-}
-
-/// Nothing stands behind the text, whose last line has the number before this one.
-pub fn nothing_after(bytes: &[u8], line: u32) -> Result<(), RunFault>
-    ensures ok { OnOk result (bytes.now ≡ []) }
-    ensures refused { IfErr result (λ fault. (fault ≡ AfterDone line) × (bytes.now ≢ [])) }
-{
-    if bytes.is_empty() {
-        Ok(())
-    } else {
-        Err(RunFault::AfterDone { line })
-    }
 }
 
 impl<'a> RunLines<'a> {
@@ -98,16 +85,12 @@ impl<'a> RunLines<'a> {
         if self.is_done {
             return Ok(false);
         }
-        let Some((line, rest)) = first_line(self.left) else {
-            return Err(RunFault::NoDone { line: self.line });
-        };
-        if line == b"done".as_slice() {
-            nothing_after(rest, self.line + 1)?;
-            self.left = rest;
+        let Some((line, rest)) = next_line(self.left, self.line)? else {
+            self.left = &[];
             self.line += 1;
             self.is_done = true;
             return Ok(false);
-        }
+        };
         read_run(line, self.line, self.loads, values)?;
         self.left = rest;
         self.line += 1;

@@ -1,6 +1,7 @@
 //! Tests of reading runs: texts written by hand, with their values and how they are refused.
 use crate::fault::RunFault;
-use crate::run_lines::{RunLines, nothing_after};
+use crate::next_line::nothing_after;
+use crate::run_lines::RunLines;
 use std::alloc::{AllocError, Global};
 use std::process::Abort;
 use std::test::Fail;

@@ -1,0 +1,4 @@
+pub mod Choosing
+pub mod Executing
+pub mod Opening
+pub mod Fields

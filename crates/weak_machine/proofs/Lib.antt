@@ -1,0 +1,11 @@
+pub mod Filters
+pub mod WordBits
+pub mod Flags
+pub mod FlatLists
+pub mod Times
+pub mod Waits
+pub mod Missing
+pub mod WeakPlays
+pub mod WeakChoices
+pub mod Performing
+pub mod Telling
