@@ -1,0 +1,16 @@
+pub mod Places
+pub mod BackwardEdges
+pub mod WindowOrders
+pub mod InPlace
+pub mod RunWindows
+pub mod Walks
+pub mod Widening
+pub mod Loads
+pub mod Holding
+pub mod Rows
+pub mod NextRuns
+pub mod Noting
+pub mod Bases
+pub mod Comparing
+pub mod Resorts
+pub mod OneWalk

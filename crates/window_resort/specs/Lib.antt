@@ -1,0 +1,5 @@
+pub mod Windows
+pub mod Walks
+pub mod Bounds
+pub mod Changes
+pub mod Tables
