@@ -1,8 +1,11 @@
 -- What was taken of a source, and the causes of refusals.
-use Rattle.std.proofs.Common.{◌≡◌, ℕ, List, [], Bool, sym, ap, subst, arith, inr}
+use Rattle.std.proofs.Common.{◌≡◌, ℕ, List, [], Bool, true, false, refl, sym, ap, subst, arith, inr}
 use Rattle.std.specs.Prelude.{◌↔◌, Option, Some, None, Ok, IfSome, IsErrOf, IsTrue, if◌then◌else◌}
 use Rattle.std.specs.Io.KnownBytes.{IsAtEnd}
-use Rattle.command_line.specs.declared.meaning.Command.TheVariants.{Check}
+use Rattle.test_gen.specs.Generated.{generated}
+use Rattle.test_lang.specs.Text.Grammar.{test_text}
+use Rattle.command_line.specs.declared.meaning.Command.{Command}
+use Rattle.command_line.specs.declared.meaning.Command.TheVariants.{Generate}
 use Rattle.command_line.specs.declared.meaning.Settings.{Settings}
 use Rattle.command_line.specs.Settings.{HasSettings}
 use Rattle.mtrace_app.specs.declared.failure.Failure.{Failure}
@@ -13,8 +16,8 @@ use Rattle.mtrace_app.specs.declared.refusal.Refusal.TheVariants.{Words, NotBuil
 use Rattle.mtrace_app.specs.declared.refusal.Size.TheVariants.{Bytes, Runs, Values}
 use Rattle.mtrace_app.specs.Answers.{HasCause, IsCause, RefusesInput}
 use Rattle.mtrace_app.specs.Failures.{IfRefused}
-use Rattle.mtrace_app.specs.Inputs.{reads}
-use Rattle.mtrace_app.specs.Outputs.{IsOfInput, TakesBy}
+use Rattle.mtrace_app.specs.Inputs.{RecordsBy, reads}
+use Rattle.mtrace_app.specs.Outputs.{IsOfInput, IsOutputOf, OutputsBy, TakesBy}
 use Rattle.mtrace_app.specs.Outside.{Change, IsPastLimit, IsWithinLimit, WhereTold}
 
 -- where the bytes are told, they are the ones that were read
@@ -35,16 +38,12 @@ where_told (Some xs) (Some ys) P Q more h = more xs ys h
 not_past : {X : Type 0} (bytes : X) (before now : Option (List ℕ)) → WhereTold before now (λ xs ys. IsErrOf (Ok bytes) PastEnd ↔ IsPastLimit xs ys) → WhereTold before now IsWithinLimit
 not_past bytes before now = where_told before now _ IsWithinLimit (λ xs ys h. within_limit xs ys (λ past. let e = h.1 past in cc))
 
-module _ (s : Settings) (check : s.command ≡ Check) (source : Change) where
-  -- `check` reads
-  pub check_reads : IsTrue (reads s.command)
-  check_reads = ap reads check
-
+module _ (s : Settings) (command_reads : IsTrue (reads s.command)) (source : Change) where
   -- the bytes that were read are those of the input
   pub of_input : {X : Type 0} (whole : X) (bytes : List ℕ) → IsAtEnd source.now → WhereTold source.before source.now (λ xs ys. IsErrOf (Ok whole) PastEnd ↔ IsPastLimit xs ys) → IfSome source.before (λ left. bytes ≡ left)
       → (P : List ℕ → Type 0) → P bytes → IsOfInput s source P
   of_input whole bytes end within same P h =
-      subst (λ (b : Bool). TakesBy b source × IfSome (if b then source.before else Some []) P) (sym check_reads)
+      subst (λ (b : Bool). TakesBy b source × IfSome (if b then source.before else Some []) P) (sym command_reads)
       ((end, not_past whole source.before source.now within), told_all source.before bytes same P h)
 
   -- the bytes that were read have no output
@@ -74,3 +73,18 @@ cause_by_words words s source settings (TooLarge size) h = (s, settings, h)
 pub causes_by_words : (words : List (List ℕ)) (s : Settings) (source : Change) → HasSettings words s → (failure : Failure) → IfRefused (IsCause s source) failure → IfRefused (HasCause words source) failure
 causes_by_words words s source settings (Refused refusal) h = cause_by_words words s source settings refusal h
 causes_by_words words s source settings Memory h = tt
+
+-- a test that is generated is the output of a command that takes nothing
+pub generated_output : (s : Settings) (source : Change) (text : List ℕ) (is_clean : Bool) → s.command ≡ Generate → source.now ≡ source.before → text ≡ test_text (generated s.gen_settings) → is_clean ≡ true
+    → IsOfInput s source (λ bytes. IsOutputOf s bytes text is_clean)
+generated_output s source text is_clean e same whole clean =
+    let p = generated s.gen_settings in
+    let takes_nothing : reads s.command ≡ false = ap reads e in
+    let output : IsOutputOf s [] text is_clean = record {
+      test = p;
+      runs = [];
+      recorded = subst (λ (c : Command). RecordsBy c s [] p []) (sym e) (refl, refl);
+      limits = (omega arith, omega arith);
+      output = subst (λ (c : Command). OutputsBy c s p [] text is_clean) (sym e) (whole, clean);
+    } in
+    subst (λ (b : Bool). TakesBy b source × IfSome (if b then source.before else Some []) (λ bytes. IsOutputOf s bytes text is_clean)) (sym takes_nothing) (same, output)

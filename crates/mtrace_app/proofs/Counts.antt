@@ -1,6 +1,6 @@
--- What `check` writes for an input, by what was read and counted of it.
+-- What a command writes for an input, by what was read and counted of it.
 use Rattle.std.proofs.Common.{◌≡◌, ◌∙◌, ◌⊎◌, ℕ, ◌≤◌, List, length, Bool, true, false, Result, Ok, Err, not, ◌&&◌, ap, sym, subst}
-use Rattle.std.specs.Prelude.{IfOk}
+use Rattle.std.specs.Prelude.{IfErr, IfOk, IsTrue}
 use Rattle.std.specs.Bool.{OnFalse}
 use Rattle.tally.specs.declared.outcome.Outcome.{Outcome}
 use Rattle.test_lang.specs.declared.op.MemModel.{MemModel}
@@ -9,7 +9,7 @@ use Rattle.test_lang.specs.Values.{load_count}
 use Rattle.verdict_report.specs.declared.report.Judged.{Judged}
 use Rattle.verdict_report.specs.Lines.{signatures, report_text_of, has_cycle, has_outside}
 use Rattle.command_line.specs.declared.meaning.Command.{Command}
-use Rattle.command_line.specs.declared.meaning.Command.TheVariants.{Check}
+use Rattle.command_line.specs.declared.meaning.Command.TheVariants.{Check, Replay, Generate}
 use Rattle.command_line.specs.declared.meaning.Settings.{Settings}
 use Rattle.mtrace_app.specs.declared.failure.Failure.{Failure}
 use Rattle.mtrace_app.specs.declared.failure.Failure.TheVariants.{Refused, Memory}
@@ -20,9 +20,9 @@ use Rattle.mtrace_app.specs.declared.refusal.Size.{Size}
 use Rattle.mtrace_app.specs.Answers.{IsTooLarge, RefusesInput}
 use Rattle.mtrace_app.specs.Counted.{AreCounted, AreCountedWithin}
 use Rattle.mtrace_app.specs.Failures.{IfRefused}
-use Rattle.mtrace_app.specs.Inputs.{AreRecordedRuns, AreRefusedRuns, RecordsBy, RefusesBy}
+use Rattle.mtrace_app.specs.Inputs.{IsRecorded, IsRefusedInput}
 use Rattle.mtrace_app.specs.Limits.{FitLimits, PassLimit}
-use Rattle.mtrace_app.specs.Outputs.{IsOutputOf, OutputsBy}
+use Rattle.mtrace_app.specs.Outputs.{IsOutputOf, OutputsBy, is_built, reports}
 use Rattle.mtrace_app.specs.Report.{AreJudged, IsReport, work_alone}
 use Rattle.mtrace_app.proofs.JudgedSoFar.{length-judged}
 
@@ -35,6 +35,14 @@ no_of false P e h = h
 pub if_ok_more : {X E : Type 0} (r : Result X E) (P Q : X → Type 0) → ((x : X) → P x → Q x) → IfOk r P → IfOk r Q
 if_ok_more (Ok x) P Q more h = more x h
 if_ok_more (Err e) P Q more h = h
+
+pub if_err_more : {X E : Type 0} (r : Result X E) (P Q : E → Type 0) → ((e : E) → P e → Q e) → IfErr r P → IfErr r Q
+if_err_more (Ok x) P Q more h = h
+if_err_more (Err e) P Q more h = more e h
+
+pub refused_more : (failure : Failure) (P Q : Refusal → Type 0) → ((refusal : Refusal) → P refusal → Q refusal) → IfRefused P failure → IfRefused Q failure
+refused_more (Refused refusal) P Q more h = more refusal h
+refused_more Memory P Q more h = tt
 
 -- ---- the report of counted runs
 
@@ -52,24 +60,25 @@ report_by model chunk p runs count chunks tally lent found text is_clean same ju
   clean = clean ∙ ap (λ (js : List Judged). not (has_cycle js) && not (has_outside tally)) same;
 }
 
--- ---- what `check` answers recorded runs
+-- ---- what a command answers recorded runs
 
-module _ (s : Settings) (check : s.command ≡ Check) (bytes : List ℕ) where
-  as_recorded : (p : Program) (runs : List (List ℕ)) → AreRecordedRuns bytes p runs → RecordsBy s.command s bytes p runs
-  as_recorded p runs h = subst (λ (c : Command). RecordsBy c s bytes p runs) (sym check) h
+-- a command that is built and reports writes a report
+report_by_command : (c : Command) (s : Settings) (p : Program) (runs : List (List ℕ)) (text : List ℕ) (is_clean : Bool) → IsTrue (is_built c s.target) → IsTrue (reports c) → IsReport s.model s.chunk p runs text is_clean → OutputsBy c s p runs text is_clean
+report_by_command Check s p runs text is_clean built reported h = h
+report_by_command Replay s p runs text is_clean built reported h = h
+report_by_command Generate s p runs text is_clean built reported h = absurd cc
+report_by_command c s p runs text is_clean built reported h = absurd cc
 
-  refuses : (refusal : Refusal) → ((fault : InputFault) × (refusal ≡ Input fault) × AreRefusedRuns bytes fault) → RefusesInput s bytes refusal
-  refuses refusal h = subst (RefusesInput s bytes) (sym h.1) (subst (λ (c : Command). RefusesBy c s bytes h.0) (sym check) h.2)
-
+module _ (s : Settings) (bytes : List ℕ) where
   -- an input that wasn't read
-  pub refuses_input : (failure : Failure) → IfRefused (λ refusal. (fault : InputFault) × (refusal ≡ Input fault) × AreRefusedRuns bytes fault) failure → IfRefused (RefusesInput s bytes) failure
-  refuses_input (Refused refusal) h = refuses refusal h
+  pub refuses_input : (failure : Failure) → IfRefused (λ refusal. (fault : InputFault) × (refusal ≡ Input fault) × IsRefusedInput s bytes fault) failure → IfRefused (RefusesInput s bytes) failure
+  refuses_input (Refused refusal) h = subst (RefusesInput s bytes) (sym h.1) h.2
   refuses_input Memory h = tt
 
-  module _ (p : Program) (runs : List (List ℕ)) (count : ℕ) (tally : List (Outcome × ℕ)) (read : AreRecordedRuns bytes p runs) (counted : AreCountedWithin p runs count tally) where
+  module _ (p : Program) (runs : List (List ℕ)) (count : ℕ) (tally : List (Outcome × ℕ)) (read : IsRecorded s bytes p runs) (counted : AreCountedWithin p runs count tally) where
     -- recorded runs that pass a limit
     pub too_large : (loads : ℕ) (size : Size) → loads ≡ load_count p → PassLimit count loads size → IsTooLarge s bytes size
-    too_large loads size same pass = (p, count, (runs, as_recorded p runs read, counted.number), subst (λ (n : ℕ). PassLimit count n size) same pass)
+    too_large loads size same pass = (p, count, (runs, read, counted.number), subst (λ (n : ℕ). PassLimit count n size) same pass)
 
     module _ (loads : ℕ) (same : loads ≡ load_count p) (fit : FitLimits count loads) where
       fit_here : FitLimits count (load_count p)
@@ -82,11 +91,11 @@ module _ (s : Settings) (check : s.command ≡ Check) (bytes : List ℕ) where
       counted_here = counted.counted fit_here
 
       -- all other recorded runs
-      pub output_here : (text : List ℕ) (is_clean : Bool) → IsReport s.model s.chunk p runs text is_clean → IsOutputOf s bytes text is_clean
-      output_here text is_clean report = record {
+      pub output_here : (text : List ℕ) (is_clean : Bool) → IsTrue (is_built s.command s.target) → IsTrue (reports s.command) → IsReport s.model s.chunk p runs text is_clean → IsOutputOf s bytes text is_clean
+      output_here text is_clean built reported report = record {
         test = p;
         runs = runs;
-        recorded = as_recorded p runs read;
+        recorded = read;
         limits = fit_runs;
-        output = subst (λ (c : Command). OutputsBy c s p runs text is_clean) (sym check) report;
+        output = report_by_command s.command s p runs text is_clean built reported report;
       }

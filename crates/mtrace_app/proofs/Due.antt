@@ -1,5 +1,5 @@
 -- Where no fault comes up, a call ends with the status that is due, or for want of memory.
-use Rattle.std.proofs.Common.{◌≡◌, ◌≢◌, ◌⊎◌, ◌≤◌, ◌^◌, ℕ, List, [], Bool, true, false, map, length, refl, sym, ap, subst, arith, inl, inr}
+use Rattle.std.proofs.Common.{◌≡◌, ◌⊎◌, ◌≤◌, ◌^◌, ℕ, List, [], Bool, true, false, map, length, refl, sym, ap, subst, arith, inl, inr}
 use Rattle.std.specs.Prelude.{Option, Some, None, IfSome, IsTrue, if◌then◌else◌}
 use Rattle.tally.specs.declared.outcome.Outcome.{Outcome}
 use Rattle.tally.specs.Tallies.{IsTally}
@@ -8,8 +8,6 @@ use Rattle.test_lang.specs.Program.{Program}
 use Rattle.test_lang.specs.Values.{load_count}
 use Rattle.signature_plan.specs.Outcomes.{outcome_of}
 use Rattle.verdict_report.specs.Lines.{signatures}
-use Rattle.command_line.specs.declared.meaning.Command.{Command}
-use Rattle.command_line.specs.declared.meaning.Command.TheVariants.{Check}
 use Rattle.command_line.specs.declared.meaning.Settings.{Settings}
 use Rattle.command_line.specs.Settings.{HasSettings}
 use Rattle.mtrace_app.specs.declared.refusal.InputFault.{InputFault}
@@ -22,17 +20,17 @@ use Rattle.mtrace_app.specs.declared.status.Status.TheVariants.{Clean, Found, In
 use Rattle.mtrace_app.specs.Answers.{IsAnswered, refused, written, cut_off, no_memory, HasCause, IsCause, IsDue, IsTooLarge, RefusesInput}
 use Rattle.mtrace_app.specs.Inputs.{HasRunCount, IsRecorded, IsRefusedInput, reads}
 use Rattle.mtrace_app.specs.Limits.{FitLimits, PassLimit}
-use Rattle.mtrace_app.specs.Outputs.{IsOfInput, IsOutputOf, IsUnbuiltInput, OutputsBy, input_of}
+use Rattle.mtrace_app.specs.Outputs.{IsOfInput, IsOutputOf, IsUnbuiltCommand, IsUnbuiltInput, input_of, is_built}
 use Rattle.mtrace_app.specs.Outside.{Change, HadFault, IsPastLimit, IsRestOf, WhereTold}
 use Rattle.mtrace_app.specs.Refusals.{status_of}
 use Rattle.mtrace_app.specs.Status.{EndsWith, output_status}
 use Rattle.mtrace_app.proofs.OneSettings.{one_settings}
-use Rattle.mtrace_app.proofs.ByCommand.{not_both_by, one_meaning_by, records_check, refuses_check}
+use Rattle.mtrace_app.proofs.ByCommand.{not_both_by, one_meaning_by, records_built, refuses_built, report_in_output}
 
 -- What an answer says of the bytes that were taken, where reading them had no fault and they are no more than an input may have.
 pub data Says (s : Settings) (bytes : List ℕ) (sink : Change) (status : Status) : Type 0 where
   for_input : (refusal : Refusal) → RefusesInput s bytes refusal → status ≡ status_of refusal → Says s bytes sink status
-  for_command : s.command ≢ Check → Says s bytes sink status
+  for_command : IsUnbuiltCommand s → Says s bytes sink status
   has_output : (text : List ℕ) (is_clean : Bool) → IsOutputOf s bytes text is_clean → (status ≡ output_status is_clean) ⊎ HadFault sink → Says s bytes sink status
   had_no_memory : status ≡ Memory → Says s bytes sink status
 
@@ -111,13 +109,17 @@ module _ (s : Settings) (bytes : List ℕ) where
   not_unbuilt : (text : List ℕ) (is_clean : Bool) → IsOutputOf s bytes text is_clean → IsUnbuiltInput s bytes → ⊥
   not_unbuilt text is_clean h u =
       let same = one_meaning_by s.command s bytes u.test h.test u.runs h.runs u.recorded h.recorded in
-      let report = subst (λ (c : Command). OutputsBy c s h.test h.runs text is_clean) (records_check s.command s bytes h.test h.runs h.recorded) h.output in
+      let report = report_in_output s.command s h.test h.runs text is_clean u.reported h.output in
       let counts =
       subst (λ (rs : List (List ℕ)). IsTally (map (outcome_of h.test) rs) u.tally) same.1
       (subst (λ (t : Program). IsTally (map (outcome_of t) u.runs) u.tally) same.0 u.counts) in
       let tallies : u.tally ≡ report.findings.tally = one_tally (map (outcome_of h.test) h.runs) u.tally report.findings.tally counts report.found.counts in
       let several : 2 ≤ length (signatures report.findings.tally) = subst (λ (t : List (Outcome × ℕ)). 2 ≤ length (signatures t)) tallies u.several in
       elim report.found.works.alone [ inl e ↦ u.chunks e | inr few ↦ omega (arith, several, few) ]
+
+  -- a command that is built isn't one that isn't
+  not_unbuilt_command : IsUnbuiltCommand s → IsTrue (is_built s.command s.target) → ⊥
+  not_unbuilt_command c built = cc
 
   module _ (sink : Change) (status : Status) where
     due_refused : Says s bytes sink status → (fault : InputFault) → IsRefusedInput s bytes fault → EndsWith status InputStatus
@@ -126,7 +128,7 @@ module _ (s : Settings) (bytes : List ℕ) where
     due_refused (for_input NotBuilt h is) fault r = absurd (not_both_by s.command s bytes h.test h.runs fault h.recorded r)
     due_refused (for_input Words h is) fault r = absurd h
     due_refused (for_input ReadFault h is) fault r = absurd h
-    due_refused (for_command c) fault r = absurd (c (refuses_check s.command s bytes fault r))
+    due_refused (for_command c) fault r = absurd (not_unbuilt_command c (refuses_built s.command s bytes fault r))
     due_refused (has_output text is_clean h is) fault r = absurd (not_both_by s.command s bytes h.test h.runs fault h.recorded r)
     due_refused (had_no_memory is) fault r = inr is
 
@@ -136,7 +138,7 @@ module _ (s : Settings) (bytes : List ℕ) where
     due_large (for_input NotBuilt h is) p count k many = absurd (many (fit_as h.test p h.runs count h.recorded k h.limits))
     due_large (for_input Words h is) p count k many = absurd h
     due_large (for_input ReadFault h is) p count k many = absurd h
-    due_large (for_command c) p count k many = absurd (c (records_check s.command s bytes p k.0 k.1))
+    due_large (for_command c) p count k many = absurd (not_unbuilt_command c (records_built s.command s bytes p k.0 k.1))
     due_large (has_output text is_clean h is) p count k many = absurd (many (fit_as h.test p h.runs count h.recorded k h.limits))
     due_large (had_no_memory is) p count k many = inr is
 
@@ -146,7 +148,7 @@ module _ (s : Settings) (bytes : List ℕ) where
     due_unbuilt (for_input NotBuilt h is) u = inl is
     due_unbuilt (for_input Words h is) u = absurd h
     due_unbuilt (for_input ReadFault h is) u = absurd h
-    due_unbuilt (for_command c) u = absurd (c (records_check s.command s bytes u.test u.runs u.recorded))
+    due_unbuilt (for_command c) u = absurd (not_unbuilt_command c (records_built s.command s bytes u.test u.runs u.recorded))
     due_unbuilt (has_output text is_clean h is) u = absurd (not_unbuilt text is_clean h u)
     due_unbuilt (had_no_memory is) u = inr is
 
@@ -160,7 +162,7 @@ module _ (s : Settings) (bytes : List ℕ) where
     due_output (for_input NotBuilt h is) p count k fit built quiet = absurd (built h)
     due_output (for_input Words h is) p count k fit built quiet = absurd h
     due_output (for_input ReadFault h is) p count k fit built quiet = absurd h
-    due_output (for_command c) p count k fit built quiet = absurd (c (records_check s.command s bytes p k.0 k.1))
+    due_output (for_command c) p count k fit built quiet = absurd (not_unbuilt_command c (records_built s.command s bytes p k.0 k.1))
     due_output (has_output text is_clean h is) p count k fit built quiet = elim is [ inl e ↦ clean_or_found is_clean e | inr fault ↦ absurd (quiet fault) ]
     due_output (had_no_memory is) p count k fit built quiet = inr (inr is)
 

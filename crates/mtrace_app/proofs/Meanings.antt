@@ -1,4 +1,4 @@
--- Each signature of the tally of runs means one of them.
+-- Each outcome of the tally of runs is that of one of them, and each signature means one.
 use Rattle.std.proofs.Common.{◌≡◌, ℕ, ◌+◌, ◌≤◌, List, [], ◌∷◌, map, Bool, true, false, cond, All, refl, sym, arith}
 use Rattle.std.specs.Prelude.{Option, Some, None, unwrap_or}
 use Rattle.std.specs.List.{AllByRecursion}
@@ -22,18 +22,20 @@ use Rattle.mtrace_app.specs.Counted.{AreMeant}
 
 -- ---- the outcomes that were counted are outcomes of runs
 
-abbrev RunWith : Program → Outcome → Type 0
-RunWith p outcome = (run : List ℕ) × IsRunOf (load_count p) run × (outcome_of p run ≡ outcome)
+-- a run of which this holds, and which has the outcome
+abbrev pub RunWith : (List ℕ → Type 0) → Program → Outcome → Type 0
+RunWith P p outcome = (run : List ℕ) × P run × (outcome_of p run ≡ outcome)
 
-this_or_later : (p : Program) (outcome : Outcome) (run : List ℕ) (b : Bool) (later : ℕ) → outcome_eq outcome (outcome_of p run) ≡ b → IsRunOf (load_count p) run → 1 ≤ cond b 1 0 + later → (1 ≤ later → RunWith p outcome) → RunWith p outcome
-this_or_later p outcome run true later e is_run some more = (run, is_run, sym ((outcome_eq_decides outcome (outcome_of p run)).0 e))
-this_or_later p outcome run false later e is_run some more = more (omega (arith, some))
+module _ (P : List ℕ → Type 0) (p : Program) where
+  this_or_later : (outcome : Outcome) (run : List ℕ) (b : Bool) (later : ℕ) → outcome_eq outcome (outcome_of p run) ≡ b → P run → 1 ≤ cond b 1 0 + later → (1 ≤ later → RunWith P p outcome) → RunWith P p outcome
+  this_or_later outcome run true later e is_run some more = (run, is_run, sym ((outcome_eq_decides outcome (outcome_of p run)).0 e))
+  this_or_later outcome run false later e is_run some more = more (omega (arith, some))
 
-run_with : (p : Program) (outcome : Outcome) (runs : List (List ℕ)) → AreRunsOf (load_count p) runs → 1 ≤ occurrences (map (outcome_of p) runs) outcome → RunWith p outcome
-run_with p outcome [] each some = absurd (omega (arith, some))
-run_with p outcome (run ∷ runs) each some =
-    this_or_later p outcome run (outcome_eq outcome (outcome_of p run)) (occurrences (map (outcome_of p) runs) outcome) refl each.0
-    (omega (arith, some, sum_by-append (λ x. cond (outcome_eq outcome x) 1 0) (outcome_of p run ∷ []) (map (outcome_of p) runs))) (run_with p outcome runs each.1)
+  run_with : (outcome : Outcome) (runs : List (List ℕ)) → AllByRecursion P runs → 1 ≤ occurrences (map (outcome_of p) runs) outcome → RunWith P p outcome
+  run_with outcome [] each some = absurd (omega (arith, some))
+  run_with outcome (run ∷ runs) each some =
+      this_or_later outcome run (outcome_eq outcome (outcome_of p run)) (occurrences (map (outcome_of p) runs) outcome) refl each.0
+      (omega (arith, some, sum_by-append (λ x. cond (outcome_eq outcome x) 1 0) (outcome_of p run ∷ []) (map (outcome_of p) runs))) (run_with outcome runs each.1)
 
 -- ---- a signature that is a run's outcome means it
 
@@ -41,7 +43,7 @@ none_outside : (p : Program) (run : List ℕ) (found : Option ℕ) → option_ma
 none_outside p run None e = refl
 none_outside p run (Some load) e = cc
 
-means_by : (p : Program) (run words : List ℕ) (found : Option (ℕ × ℕ)) → IsRunOf (load_count p) run → outside_of p run ≡ found → outcome_by p run found ≡ Inside words → Means p words run
+pub means_by : (p : Program) (run words : List ℕ) (found : Option (ℕ × ℕ)) → IsRunOf (load_count p) run → outside_of p run ≡ found → outcome_by p run found ≡ Inside words → Means p words run
 means_by p run words None is_run none e = record {
   inside = record { is_run = is_run; none_outside = none_outside p run (first_outside p run) none };
   words_are = cc;
@@ -75,17 +77,20 @@ all_counted (pair ∷ pairs) h =
 
 -- ---- all together
 
-abbrev AreOutcomes : Program → List Outcome → Type 0
-AreOutcomes p outcomes = AllByRecursion (RunWith p) outcomes
+abbrev pub AreOutcomes : (List ℕ → Type 0) → Program → List Outcome → Type 0
+AreOutcomes P p outcomes = AllByRecursion (RunWith P p) outcomes
 
-outcomes_of : (p : Program) (runs : List (List ℕ)) (pairs : List (Outcome × ℕ)) (outcomes : List Outcome) → AreRunsOf (load_count p) runs → IsTally (map (outcome_of p) runs) pairs → AllCounted pairs outcomes → AreOutcomes p outcomes
-outcomes_of p runs pairs [] each tally h = tt
-outcomes_of p runs pairs (outcome ∷ more) each tally h =
+outcomes_of : (P : List ℕ → Type 0) (p : Program) (runs : List (List ℕ)) (pairs : List (Outcome × ℕ)) (outcomes : List Outcome) → AllByRecursion P runs → IsTally (map (outcome_of p) runs) pairs → AllCounted pairs outcomes → AreOutcomes P p outcomes
+outcomes_of P p runs pairs [] each tally h = tt
+outcomes_of P p runs pairs (outcome ∷ more) each tally h =
     let here = h.0 in
     let same = tally.counted outcome in
-    (run_with p outcome runs each (omega (arith, here, same)), outcomes_of p runs pairs more each tally h.1)
+    (run_with P p outcome runs each (omega (arith, here, same)), outcomes_of P p runs pairs more each tally h.1)
 
-meant_by : (p : Program) (pairs : List (Outcome × ℕ)) → AreOutcomes p (keys_of pairs) → AreMeant p (signatures pairs)
+pub tallied_outcomes : (P : List ℕ → Type 0) (p : Program) (runs : List (List ℕ)) (pairs : List (Outcome × ℕ)) → AllByRecursion P runs → IsTally (map (outcome_of p) runs) pairs → AreOutcomes P p (keys_of pairs)
+tallied_outcomes P p runs pairs each tally = outcomes_of P p runs pairs (keys_of pairs) each tally (all_counted pairs tally.counts.positive)
+
+meant_by : (p : Program) (pairs : List (Outcome × ℕ)) → AreOutcomes (IsRunOf (load_count p)) p (keys_of pairs) → AreMeant p (signatures pairs)
 meant_by p [] h = tt
 meant_by p ((Inside words, count) ∷ more) h =
     let run = h.0.0 in
@@ -93,4 +98,4 @@ meant_by p ((Inside words, count) ∷ more) h =
 meant_by p ((Outside node value, count) ∷ more) h = meant_by p more h.1
 
 pub tallied_mean : (p : Program) (runs : List (List ℕ)) (pairs : List (Outcome × ℕ)) → AreRunsOf (load_count p) runs → IsTally (map (outcome_of p) runs) pairs → AreMeant p (signatures pairs)
-tallied_mean p runs pairs each tally = meant_by p pairs (outcomes_of p runs pairs (keys_of pairs) each tally (all_counted pairs tally.counts.positive))
+tallied_mean p runs pairs each tally = meant_by p pairs (tallied_outcomes (IsRunOf (load_count p)) p runs pairs each tally)

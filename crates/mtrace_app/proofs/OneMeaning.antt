@@ -14,16 +14,16 @@ use Rattle.mtrace_app.specs.declared.refusal.InputFault.{InputFault}
 use Rattle.mtrace_app.specs.Inputs.{AreRecordedRuns, AreRefusedRuns, in_test, behind, behind_test, fault_in_test, fault_behind_test}
 
 -- two results that are the same hold the same, and no result is both
-ok_one : {A B : Type 0} (x y : A) → ◌≡◌ {A = Result A B} (Ok x) (Ok y) → x ≡ y
+pub ok_one : {A B : Type 0} (x y : A) → ◌≡◌ {A = Result A B} (Ok x) (Ok y) → x ≡ y
 ok_one x y e = cc
 
-err_one : {A B : Type 0} (x y : B) → ◌≡◌ {A = Result A B} (Err x) (Err y) → x ≡ y
+pub err_one : {A B : Type 0} (x y : B) → ◌≡◌ {A = Result A B} (Err x) (Err y) → x ≡ y
 err_one x y e = cc
 
 not_both_ends : {A B : Type 0} (x : A) (y : B) → ◌≡◌ {A = Result A B} (Ok x) (Err y) → ⊥
 not_both_ends x y e = cc
 
-some_one : {A : Type 0} (x y : A) → Some x ≡ Some y → x ≡ y
+pub some_one : {A : Type 0} (x y : A) → Some x ≡ Some y → x ≡ y
 some_one x y e = cc
 
 module _ (bytes : List ℕ) where
@@ -53,7 +53,11 @@ module _ (bytes : List ℕ) where
       let read = same_reading p q a.rest b.rest (Ok runs) (Ok others) a.test b.test (runs_mean p runs a) (runs_mean q others b) in
       (same_test p q a.rest b.rest a.test b.test, ok_one runs others read)
 
-  not_a_test : (p : Program) (rest : List ℕ) (refusal : TestFault) → StartsWithTest bytes p rest → IsRefusedTest bytes refusal → ⊥
+  -- a text of no test is refused in one way
+  pub same_refusal_of_test : (r t : TestFault) → IsRefusedTest bytes r → IsRefusedTest bytes t → r ≡ t
+  same_refusal_of_test r t h k = err_one r t (sym (means_reading bytes (Err r) h) ∙ means_reading bytes (Err t) k)
+
+  pub not_a_test : (p : Program) (rest : List ℕ) (refusal : TestFault) → StartsWithTest bytes p rest → IsRefusedTest bytes refusal → ⊥
   not_a_test p rest refusal starts refused =
       not_both_ends p refusal (sym (means_reading bytes (Ok p) (rest, starts)) ∙ means_reading bytes (Err refusal) refused)
 
@@ -64,8 +68,7 @@ module _ (bytes : List ℕ) where
 
   pub one_refusal : (fault other : InputFault) → AreRefusedRuns bytes fault → AreRefusedRuns bytes other → fault ≡ other
   one_refusal fault other (in_test r h named) (in_test t k also) =
-      let same = err_one r t (sym (means_reading bytes (Err r) h) ∙ means_reading bytes (Err t) k) in
-      some_one fault other (sym named ∙ ap fault_in_test same ∙ also)
+      some_one fault other (sym named ∙ ap fault_in_test (same_refusal_of_test r t h k) ∙ also)
   one_refusal fault other (in_test r h named) (behind q rest t starts k also) = absurd (not_a_test q rest r starts h)
   one_refusal fault other (behind p rest r starts h named) (in_test t k also) = absurd (not_a_test p rest t starts k)
   one_refusal fault other (behind p rest r starts h named) (behind q others t also_starts k also) =

@@ -20,7 +20,7 @@ use Rattle.verdict_report.specs.Lines.{head_lines, named, signatures, outsides, 
 use Rattle.verdict_report.specs.Numbers.{signature_text}
 use Rattle.mtrace_app.specs.Report.{AreJudged, IsJudged, IsReport, IsVerdict, work_alone}
 use Rattle.command_line.specs.declared.meaning.Command.{Command}
-use Rattle.command_line.specs.declared.meaning.Command.TheVariants.{Check}
+use Rattle.command_line.specs.declared.meaning.Command.TheVariants.{Check, Replay, Generate}
 use Rattle.command_line.specs.declared.meaning.Settings.{Settings}
 use Rattle.mtrace_app.specs.Outputs.{IsOutputOf, OutputsBy}
 use Rattle.mtrace_app.proofs.ByCommand.{one_meaning_by}
@@ -120,13 +120,16 @@ same_report model chunk p runs text other is_clean also h k =
           ∙ ap (λ (b : Bool). not b && not (has_outside g.tally)) (same_any f.verdicts g.verdicts look) ∙ sym k.clean,
     )
 
-pub one_output : (s : Settings) (bytes text other : List ℕ) (is_clean also : Bool) → s.command ≡ Check → IsOutputOf s bytes text is_clean → IsOutputOf s bytes other also
-    → (text ≡ other) × (is_clean ≡ also)
-one_output s bytes text other is_clean also check h k =
+one_output_by : (c : Command) (s : Settings) (p : Program) (runs : List (List ℕ)) (text other : List ℕ) (is_clean also : Bool) → OutputsBy c s p runs text is_clean → OutputsBy c s p runs other also → (text ≡ other) × (is_clean ≡ also)
+one_output_by Check s p runs text other is_clean also h k = same_report s.model s.chunk p runs text other is_clean also h k
+one_output_by Replay s p runs text other is_clean also h k = same_report s.model s.chunk p runs text other is_clean also h k
+one_output_by Generate s p runs text other is_clean also h k = (h.0 ∙ sym k.0, h.1 ∙ sym k.1)
+one_output_by c s p runs text other is_clean also h k = absurd h
+
+pub one_output : (s : Settings) (bytes text other : List ℕ) (is_clean also : Bool) → IsOutputOf s bytes text is_clean → IsOutputOf s bytes other also → (text ≡ other) × (is_clean ≡ also)
+one_output s bytes text other is_clean also h k =
     let same = one_meaning_by s.command s bytes k.test h.test k.runs h.runs k.recorded h.recorded in
     let there =
     subst (λ (rs : List (List ℕ)). OutputsBy s.command s h.test rs other also) same.1
     (subst (λ (q : Program). OutputsBy s.command s q k.runs other also) same.0 k.output) in
-    same_report s.model s.chunk h.test h.runs text other is_clean also
-    (subst (λ (c : Command). OutputsBy c s h.test h.runs text is_clean) check h.output)
-    (subst (λ (c : Command). OutputsBy c s h.test h.runs other also) check there)
+    one_output_by s.command s h.test h.runs text other is_clean also h.output there

@@ -28,11 +28,11 @@ with_runs-err : (runs : List (List ℕ)) (fault : RunFault) → with_runs runs (
 with_runs-err [] fault = refl
 with_runs-err (run ∷ runs) fault = ap (with_run run) (with_runs-err runs fault)
 
-runs-push : (loads : ℕ) (runs : List (List ℕ)) (run : List ℕ) → AreRunsOf loads runs → IsRunOf loads run → AreRunsOf loads (runs ++ run ∷ [])
+pub runs-push : (loads : ℕ) (runs : List (List ℕ)) (run : List ℕ) → AreRunsOf loads runs → IsRunOf loads run → AreRunsOf loads (runs ++ run ∷ [])
 runs-push loads [] run each is = (is, tt)
 runs-push loads (first ∷ runs) run each is = (each.0, runs-push loads runs run each.1 is)
 
-fewer_fit : (n l : ℕ) → FitLimits (n + 1) l → FitLimits n l
+pub fewer_fit : (n l : ℕ) → FitLimits (n + 1) l → FitLimits n l
 fewer_fit n l h = (omega (arith, h.0), omega (arith, h.1))
 
 abbrev pub reader_of : ℕ → List ℕ → ℕ → Reader

@@ -12,7 +12,11 @@ use Rattle.run_text.specs.Reader.{Reader}
 use Rattle.run_text.specs.Runs.{reading}
 use Rattle.signature_plan.specs.Outcomes.{outcome_of}
 use Rattle.verdict_report.specs.Lines.{signatures}
+use Rattle.run_text.specs.Items.{IsRefusedText}
 use Rattle.mtrace_app.specs.declared.failure.Failure.{Failure}
+use Rattle.mtrace_app.specs.declared.refusal.InputFault.{InputFault}
+use Rattle.mtrace_app.specs.declared.refusal.Refusal.{Refusal}
+use Rattle.mtrace_app.specs.declared.refusal.Refusal.TheVariants.{Input}
 use Rattle.mtrace_app.specs.Failures.{failure_of}
 use Rattle.mtrace_app.specs.Inputs.{fault_behind_test}
 use Rattle.mtrace_app.specs.Limits.{FitLimits}
@@ -32,6 +36,10 @@ pub record AreCounted (p : Program) (runs : List (List ℕ)) (count : ℕ) (tall
 pub record AreCountedWithin (p : Program) (runs : List (List ℕ)) (count : ℕ) (tally : List (Outcome × ℕ)) : Type 0 where
   pub number : count ≡ length runs
   pub counted : FitLimits count (load_count p) → AreCounted p runs count tally
+
+-- a text of items, whose first line has this number, is refused as that of an input is
+abbrev pub RefusesBehind : {Item : Type 0} → (Item → List ℕ → Type 0) → (ℕ → List ℕ → InputFault → Type 0) → ℕ → List ℕ → Refusal → Type 0
+RefusesBehind IsLineOf IsBad line text refusal = (fault : InputFault) × (refusal ≡ Input fault) × IsRefusedText IsLineOf IsBad line text fault
 
 -- the text of runs is refused so, or memory was refused
 abbrev pub FailsBehind : Reader → Failure → Type 0

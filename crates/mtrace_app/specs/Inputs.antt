@@ -1,5 +1,5 @@
 -- What the bytes mean that a command takes: a test with recorded runs, or the refusal of their first bad line.
-use Rattle.std.specs.Prelude.{◌≡◌, ℕ, ◌+◌, List, [], length, Bool, true, false, Option, Some, None}
+use Rattle.std.specs.Prelude.{◌≡◌, ℕ, ◌+◌, List, [], map, length, Bool, true, false, Option, Some, None, Err, IsTrue}
 use Rattle.test_lang.specs.Program.{Program}
 use Rattle.test_lang.specs.Values.{load_count}
 use Rattle.test_lang.specs.declared.text.fault.TestFault.{TestFault}
@@ -11,12 +11,22 @@ use Rattle.run_text.specs.declared.fault.RunFault.TheVariants.{BadRunLine as Bad
 use Rattle.run_text.specs.Reader.{Reader}
 use Rattle.run_text.specs.Items.{IsTextOf, IsRefusedText}
 use Rattle.run_text.specs.Runs.{IsLineOfRun, IsBadForRuns}
+use Rattle.run_text.specs.ScheduleReader.{Schedules}
+use Rattle.run_text.specs.ScheduleGrammar.{SpellsSteps, AllStepsFit, StartsWithSchedule, ScheduleMeans}
+use Rattle.test_lang.specs.declared.step.Step.{Step}
+use Rattle.test_lang.specs.declared.target.Target.{Target}
+use Rattle.test_lang.specs.declared.target.Target.TheVariants.{Sc, Tso, Pso, Weak}
+use Rattle.sim_core.specs.Setup.{Setup, IsDonePlayOf, run_after}
+use Rattle.sim_core.specs.declared.schedule.PlayFault.{PlayFault}
+use Rattle.sim_core.specs.declared.schedule.PlayFault.TheVariants.{NotEnabled as NotEnabledStep, Unfinished as UnfinishedPlay}
+use Rattle.sim_core.specs.Schedules.{ComesOut}
+use Rattle.test_gen.specs.Generated.{generated}
 use Rattle.command_line.specs.declared.meaning.Command.{Command}
 use Rattle.command_line.specs.declared.meaning.Command.TheVariants.{Check, Replay, Run, Race, Generate, Demo}
 use Rattle.command_line.specs.declared.meaning.Settings.{Settings}
 use Rattle.mtrace_app.specs.declared.refusal.InputFault.{InputFault}
 use Rattle.mtrace_app.specs.declared.refusal.Reason.{Reason}
-use Rattle.mtrace_app.specs.declared.refusal.Reason.TheVariants.{BadHead, BadWords, BadLine, WordRange, TooManyThreads, TooManyOps, NoThread, NoEnd, BadRunLine, WrongCount, ValueRange, NoDone, AfterDone}
+use Rattle.mtrace_app.specs.declared.refusal.Reason.TheVariants.{BadHead, BadWords, BadLine, WordRange, TooManyThreads, TooManyOps, NoThread, NoEnd, BadRunLine, WrongCount, ValueRange, NoDone, AfterDone, NotEnabled, Unfinished}
 
 -- whether a command takes bytes
 abbrev pub reads : Command → Bool
@@ -79,14 +89,58 @@ text_behind p line rest = record { left = rest; line = line; loads = load_count 
 abbrev pub behind_test : Program → List ℕ → Reader
 behind_test p rest = text_behind p (length (test_lines p) + 1) rest
 
--- ---- by command: one that isn't built has no recorded runs and refuses no bytes
+-- ---- the items are schedules, each a play to the end
+
+-- the line is a schedule line with these steps, which the machine plays to the end
+pub record IsLineOfPlay (setup : Setup) (steps : List Step) (line : List ℕ) : Type 0 where
+  pub spells : SpellsSteps steps line
+  pub fit : AllStepsFit steps
+  pub is_done_play : IsDonePlayOf setup steps
+
+-- the reader of the schedules behind a test, the first line of which has this number
+abbrev pub schedules_behind : ℕ → List ℕ → Schedules
+schedules_behind line rest = record { left = rest; line = line; is_done = false }
+
+abbrev pub fault_of_play : ℕ → PlayFault → InputFault
+fault_of_play line (NotEnabledStep place) = record { line = line; reason = NotEnabled place }
+fault_of_play line UnfinishedPlay = record { line = line; reason = Unfinished }
+
+-- No schedule that is played to the end begins these bytes, and this is why; their first line has this number. The form of a line comes before its play.
+pub data IsBadForPlays (setup : Setup) (number : ℕ) (bytes : List ℕ) (fault : InputFault) : Type 0 where
+  no_schedule : (refusal : RunFault) → ScheduleMeans (schedules_behind number bytes) (Err refusal) → fault_behind_test refusal ≡ Some fault → IsBadForPlays setup number bytes fault
+  not_played : (steps : List Step) (rest : List ℕ) (refusal : PlayFault) → StartsWithSchedule bytes steps rest → AllStepsFit steps → ComesOut setup steps (Err refusal) → fault ≡ fault_of_play number refusal → IsBadForPlays setup number bytes fault
+
+-- what the settings have a test played on
+abbrev pub setup_of : Settings → Program → Setup
+setup_of s p = record { target = s.target; fault = s.fault; test = p }
+
+-- The recorded runs are those of the schedules.
+pub record ArePlayedRuns (s : Settings) (bytes : List ℕ) (p : Program) (runs : List (List ℕ)) : Type 0 where
+  pub schedules : List (List Step)
+  pub text : IsRecordedText (λ q. IsLineOfPlay (setup_of s q)) bytes p schedules
+  pub played : runs ≡ map (run_after (setup_of s p)) schedules
+
+abbrev pub AreRefusedPlays : Settings → List ℕ → InputFault → Type 0
+AreRefusedPlays s = IsRefusedRecordedText (λ p. IsLineOfPlay (setup_of s p)) (λ p. IsBadForPlays (setup_of s p)) (λ fault. Some fault)
+
+-- the machines that are built
+abbrev pub has_machine : Target → Bool
+has_machine Sc = true
+has_machine Tso = false
+has_machine Pso = false
+has_machine Weak = true
+
+-- ---- by command: one that isn't built has no recorded runs and refuses no bytes; `generate` takes none, and has no runs of the test that its settings draw
 
 abbrev pub RecordsBy : Command → Settings → List ℕ → Program → List (List ℕ) → Type 0
 RecordsBy Check s bytes p runs = AreRecordedRuns bytes p runs
+RecordsBy Replay s bytes p runs = IsTrue (has_machine s.target) × ArePlayedRuns s bytes p runs
+RecordsBy Generate s bytes p runs = (p ≡ generated s.gen_settings) × (runs ≡ [])
 RecordsBy command s bytes p runs = ⊥
 
 abbrev pub RefusesBy : Command → Settings → List ℕ → InputFault → Type 0
 RefusesBy Check s bytes fault = AreRefusedRuns bytes fault
+RefusesBy Replay s bytes fault = IsTrue (has_machine s.target) × AreRefusedPlays s bytes fault
 RefusesBy command s bytes fault = ⊥
 
 -- By these settings the bytes mean this test and these recorded runs of it.

@@ -9,4 +9,6 @@ pub mod Answers
 pub mod Answering
 pub mod Failures
 pub mod Counted
+pub mod Played
+pub mod Alarms
 pub mod Judging

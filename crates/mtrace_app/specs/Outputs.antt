@@ -1,16 +1,18 @@
 -- What a command writes, by its settings and the bytes that it takes.
-use Rattle.std.specs.Prelude.{◌≡◌, ◌≢◌, ◌⊎◌, ℕ, ◌≤◌, List, [], map, length, Bool, true, false, Option, Some, IfSome, if◌then◌else◌}
+use Rattle.std.specs.Prelude.{◌≡◌, ◌≢◌, ◌⊎◌, ℕ, ◌≤◌, List, [], map, length, Bool, true, false, Option, Some, IfSome, IsFalse, IsTrue, if◌then◌else◌}
 use Rattle.std.specs.Io.KnownBytes.{IsAtEnd}
 use Rattle.tally.specs.declared.outcome.Outcome.{Outcome}
 use Rattle.tally.specs.Tallies.{IsTally}
+use Rattle.test_lang.specs.declared.target.Target.{Target}
 use Rattle.test_lang.specs.Program.{Program}
 use Rattle.test_lang.specs.Values.{load_count}
+use Rattle.test_lang.specs.Text.Grammar.{test_text}
 use Rattle.signature_plan.specs.Outcomes.{outcome_of}
 use Rattle.verdict_report.specs.Lines.{signatures}
 use Rattle.command_line.specs.declared.meaning.Command.{Command}
-use Rattle.command_line.specs.declared.meaning.Command.TheVariants.{Check}
+use Rattle.command_line.specs.declared.meaning.Command.TheVariants.{Check, Replay, Run, Race, Generate, Demo}
 use Rattle.command_line.specs.declared.meaning.Settings.{Settings}
-use Rattle.mtrace_app.specs.Inputs.{IsRecorded, reads}
+use Rattle.mtrace_app.specs.Inputs.{IsRecorded, has_machine, reads}
 use Rattle.mtrace_app.specs.Limits.{FitLimits}
 use Rattle.mtrace_app.specs.Outside.{Change, IsWithinLimit, WhereTold}
 use Rattle.mtrace_app.specs.Report.{IsReport}
@@ -19,6 +21,8 @@ use Rattle.mtrace_app.specs.Report.{IsReport}
 
 abbrev pub OutputsBy : Command → Settings → Program → List (List ℕ) → List ℕ → Bool → Type 0
 OutputsBy Check s p runs text is_clean = IsReport s.model s.chunk p runs text is_clean
+OutputsBy Replay s p runs text is_clean = IsReport s.model s.chunk p runs text is_clean
+OutputsBy Generate s p runs text is_clean = (text ≡ test_text p) × (is_clean ≡ true)
 OutputsBy command s p runs text is_clean = ⊥
 
 -- By these settings this text is the output for these recorded runs, and it is clean or isn't.
@@ -35,12 +39,30 @@ pub record IsOutputOf (s : Settings) (bytes text : List ℕ) (is_clean : Bool) :
 
 -- ---- what isn't built yet
 
--- a command that isn't: all but `check`
+abbrev pub is_built : Command → Target → Bool
+is_built Check target = true
+is_built Replay target = has_machine target
+is_built Run target = false
+is_built Race target = false
+is_built Generate target = true
+is_built Demo target = false
+
+-- whether a command checks runs, and reports what is found of them
+abbrev pub reports : Command → Bool
+reports Check = true
+reports Replay = true
+reports Run = true
+reports Race = true
+reports Generate = false
+reports Demo = true
+
+-- a command that isn't: all but `check`, `generate`, and `replay` on a machine that is built
 abbrev pub IsUnbuiltCommand : Settings → Type 0
-IsUnbuiltCommand s = s.command ≢ Check
+IsUnbuiltCommand s = IsFalse (is_built s.command s.target)
 
 -- The bytes mean recorded runs within the limits, and a chunk of their signatures may have more than one. How these are checked together isn't built.
 pub record IsUnbuiltInput (s : Settings) (bytes : List ℕ) : Type 0 where
+  pub reported : IsTrue (reports s.command)
   pub test : Program
   pub runs : List (List ℕ)
   pub recorded : IsRecorded s bytes test runs

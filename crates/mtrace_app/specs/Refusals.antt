@@ -2,7 +2,7 @@
 use Rattle.std.specs.Prelude.{ℕ, List, [], ◌∷◌, ◌++◌, codes}
 use Rattle.std.specs.Fmt.{decimal}
 use Rattle.mtrace_app.specs.declared.refusal.Reason.{Reason}
-use Rattle.mtrace_app.specs.declared.refusal.Reason.TheVariants.{BadHead, BadWords, BadLine, WordRange, TooManyThreads, TooManyOps, NoThread, NoEnd, BadRunLine, WrongCount, ValueRange, NoDone, AfterDone}
+use Rattle.mtrace_app.specs.declared.refusal.Reason.TheVariants.{BadHead, BadWords, BadLine, WordRange, TooManyThreads, TooManyOps, NoThread, NoEnd, BadRunLine, WrongCount, ValueRange, NoDone, AfterDone, NotEnabled, Unfinished}
 use Rattle.mtrace_app.specs.declared.refusal.Size.{Size}
 use Rattle.mtrace_app.specs.declared.refusal.Size.TheVariants.{Bytes, Runs, Values}
 use Rattle.mtrace_app.specs.declared.refusal.Refusal.{Refusal}
@@ -25,6 +25,8 @@ reason_text (WrongCount want got) = codes "WrongCount want " ++ (decimal want ++
 reason_text ValueRange = codes "ValueRange"
 reason_text NoDone = codes "NoDone"
 reason_text AfterDone = codes "AfterDone"
+reason_text (NotEnabled place) = codes "NotEnabled place " ++ decimal place
+reason_text Unfinished = codes "Unfinished"
 
 -- which limit is passed, and how many there are
 abbrev pub size_text : Size → List ℕ

@@ -3,18 +3,21 @@
 //! What is proved:
 //! `mtrace`, for every test, model and recorded runs: each status has its row in the table of answers, with its cause, what the sink gets and the line for the errors (`answered`); words without settings, and commands that
 //! aren't built, are refused before anything is taken (`by_words`); bytes within the limit that are taken without a fault are answered by what they mean, or by want of memory (`complete`, `too_large`). `Refusal::line` is
-//! the line of a refusal, `Status::exit_number` the number of a status. Laws (`laws`): an input means recorded runs or is refused, and not both; its runs, its refusal and its report are one.
+//! the line of a refusal, `Status::exit_number` the number of a status. A machine without a fault gives nothing that
+//! its own memory model, or a weaker one, forbids (`no_alarm`). Laws (`laws`): an input means recorded runs or is refused, and not both; its runs, its refusal and its output are one.
 //! Inside, `counted` makes the report of counted runs, wherever these come from.
 #![tactic(auto)]
 
 mod answer;
-mod check;
 mod counted;
 mod failure;
+mod generated;
+mod input;
 mod judging;
 pub mod laws;
 mod limits;
 mod output;
+mod played;
 mod program;
 mod reading;
 mod recorded;

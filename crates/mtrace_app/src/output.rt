@@ -1,20 +1,34 @@
 //! What a command writes, by the words and by what the source gives.
 ghost use Rattle.std.specs.Prelude.{◌≡◌, ◌⊎◌, ◌≤◌, Err, IfOk, IfErr};
+ghost use Rattle.command_line.specs.Settings.{AreConsistent, IsWithinRanges};
 ghost use Rattle.mtrace_app.specs.declared.refusal.Refusal.{Refusal};
 ghost use Rattle.mtrace_app.specs.declared.failure.Failure.TheVariants.{Memory, Refused};
 ghost use Rattle.mtrace_app.specs.Answers.{HasCause, HasOutput, IsCause, IsDueByWords, texts};
 ghost use Rattle.mtrace_app.specs.Failures.{IfRefused};
-ghost use Rattle.mtrace_app.specs.Outputs.{IsOfInput, IsOutputOf, IsUnbuiltCommand};
+ghost use Rattle.mtrace_app.specs.Outputs.{IsOfInput, IsOutputOf, IsUnbuiltCommand, is_built};
 ghost use Rattle.mtrace_app.specs.Outside.{change, IsPastLimit, IsRestOf, WhereTold};
 
-use crate::check::check;
 use crate::counted::Output;
 use crate::failure::Failure;
+use crate::generated::generated_text;
+use crate::input::output_for_input;
 use crate::reading::read_to_end;
 use crate::refusal::{Refusal, Size};
 use command_line::{Command, Settings, settings};
 use mt_base::Source;
 use std::alloc::Global;
+use test_lang::target::Target;
+
+/// Whether a command is built, and where it plays, the machine.
+fn is_built(command: Command, target: Target) -> bool
+    ensures { result ≡ is_built command target }
+{
+    match command {
+        Command::Check | Command::Generate => true,
+        Command::Replay => matches!(target, Target::Sc | Target::Weak),
+        Command::Run | Command::Race | Command::Demo => false,
+    }
+}
 
 /// The output of a command with its settings. A command that isn't built takes nothing.
 fn output_of<S: Source>(
@@ -22,6 +36,8 @@ fn output_of<S: Source>(
     settings: &Settings,
     source: &mut S,
 ) -> Result<Output, Failure>
+    requires ranges { IsWithinRanges settings.now }
+    requires consistent { AreConsistent settings.now }
     ensures output { IfOk result (λ output. IsOfInput settings.now (change (S.left source.old) (S.left source.new) (S.faults source.old) (S.faults source.new))
         (λ bytes. IsOutputOf settings.now bytes output.text.items output.is_clean)) }
     ensures refused { IfErr result (IfRefused (IsCause settings.now
@@ -33,11 +49,17 @@ fn output_of<S: Source>(
     ensures rest { IsRestOf (S.left source.old) (S.left source.new) }
     ensures later { S.faults source.old ≤ S.faults source.new }
 {
-    if settings.command != Command::Check {
+    if !is_built(settings.command, settings.target) {
         return Err(Failure::Refused(Refusal::NotBuilt));
     }
-    let input = read_to_end(alloc, source)?;
-    check(alloc, settings, &input)
+    match settings.command {
+        Command::Check | Command::Replay => {
+            let input = read_to_end(alloc, source)?;
+            output_for_input(alloc, settings, &input)
+        }
+        Command::Generate => Ok(generated_text(alloc, settings)?),
+        Command::Run | Command::Race | Command::Demo => unreachable!(),
+    }
 }
 
 /// The output that the words ask for.

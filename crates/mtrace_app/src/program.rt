@@ -5,6 +5,7 @@ ghost use Rattle.mt_base.specs.Faults.{Rose};
 ghost use Rattle.command_line.specs.declared.meaning.Settings.{Settings};
 ghost use Rattle.command_line.specs.Settings.{HasSettings};
 ghost use Rattle.mtrace_app.specs.declared.refusal.Refusal.{Refusal};
+ghost use Rattle.mtrace_app.specs.Alarms.{IsAlarmFree};
 ghost use Rattle.mtrace_app.specs.Answering.{IsPut, answer_line};
 ghost use Rattle.mtrace_app.specs.Answers.{IsAnswered, IsDue, IsDueByWords, texts};
 ghost use Rattle.mtrace_app.specs.Outputs.{input_of};
@@ -13,6 +14,7 @@ ghost use Rattle.mtrace_app.specs.Refusals.{message, status_of};
 ghost use Rattle.mtrace_app.specs.Status.{EndsWith};
 
 use crate::answer::{Answer, answer_words};
+use crate::laws::machines_raise_no_alarm;
 use crate::status::Status;
 use crate::writing::put_all;
 use mt_base::{Gate, Sink, Source};
@@ -21,8 +23,9 @@ use std::thread::Threads;
 
 /// Answers the words, which stand behind the program's name. A status from 2 on is told by a line to `errs`.
 ///
-/// `check` reads the source to its end: a test, and recorded runs of it. The whole report is made before it is put to the sink, and
-/// each put offers all that is left of it. Of the commands only `check` is built.
+/// `check` and `replay` read the source to its end: a test, and recorded runs or schedules of it. `generate` takes nothing. The whole output is
+/// made before it is put to the sink, and each put offers all that is left of it. The other commands aren't built, nor are the machines `tso` and
+/// `pso`.
 pub fn mtrace<S: Source, K: Sink, E: Sink, G: Gate + Sync>(
     rt: &(impl Threads + Sync),
     alloc: Global,
@@ -49,6 +52,8 @@ pub fn mtrace<S: Source, K: Sink, E: Sink, G: Gate + Sync>(
         → ¬ (Rose (S.faults source.old) (S.faults source.new))
         → IfSome (input_of s (S.left source.old)) (λ bytes. length bytes ≤ 2 ^ 30
         → IsDue s bytes (change (K.held sink.old) (K.held sink.new) (K.faults sink.old) (K.faults sink.new)) result) }
+    // A machine without a fault gives nothing that its own memory model, or a weaker one, forbids.
+    ensures no_alarm { (s : Settings) → HasSettings (texts words.now) s → IsAlarmFree s → IfSome (input_of s (S.left source.old)) (λ bytes. result ≢ Status.Found) }
     ensures too_large { WhereTold (S.left source.old) (S.left source.new) (λ before now. IsPastLimit before now → result ≡ Status.TooLarge) }
 
     // No more is taken than the limit and a block of 2^16 bytes, and no count of faults falls.
@@ -57,6 +62,8 @@ pub fn mtrace<S: Source, K: Sink, E: Sink, G: Gate + Sync>(
     ensures sink_later { K.faults sink.old ≤ K.faults sink.new }
     ensures errs_later { E.faults errs.old ≤ E.faults errs.new }
 {
+    // The law of no false alarm, for the clause `no_alarm`.
+    machines_raise_no_alarm();
     let answer = answer_words(alloc, words, source);
     let status = put_output(&answer, sink);
     let _ = put_all(errs, told(&answer, status));

@@ -43,7 +43,7 @@ fn next_run(lines: &mut RunLines<'_>, run: &mut Vec<u32>) -> Result<bool, RunFau
 }
 
 /// Counts the outcome of a run, which makes so many of them, unless they pass the limits. `words` is where its signature stands on the way.
-fn count_run(
+pub(crate) fn count_run(
     plan: &Plan,
     runs: u64,
     run: &[u32],
@@ -93,7 +93,7 @@ fn count_runs(alloc: Global, plan: &Plan, text: &[u8], line: u32) -> Result<(u64
 }
 
 /// The test of an input, and its recorded runs.
-pub(crate) fn read_input(alloc: Global, input: &[u8]) -> Result<RunsRead, Failure>
+pub(crate) fn read_runs(alloc: Global, input: &[u8]) -> Result<RunsRead, Failure>
     requires { length input.now ≤ 2 ^ 30 }
     ensures plan { IfOk result (λ read. read.plan ≡ read.test) }
     ensures few { IfOk result (λ read. read.runs < 2 ^ 32) }

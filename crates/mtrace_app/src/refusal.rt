@@ -27,7 +27,7 @@ pub enum Reason {
     NoThread,
     /// The text ends within a test.
     NoEnd,
-    /// A line behind a test is neither a run nor the end of the runs.
+    /// A line behind a test is neither a run or schedule nor their end.
     BadRunLine,
     /// A run has `got` values, and the test has `want` loads.
     WrongCount { want: u32, got: u32 },
@@ -37,6 +37,10 @@ pub enum Reason {
     NoDone,
     /// A byte stands behind the end of the runs.
     AfterDone,
+    /// A schedule's step at this place, counted from 0, isn't enabled.
+    NotEnabled { place: u32 },
+    /// A schedule ends before each operation has taken effect.
+    Unfinished,
 }
 
 impl fmt::Display for Reason {
@@ -60,6 +64,8 @@ impl fmt::Display for Reason {
             Reason::ValueRange => f.write_str("ValueRange"),
             Reason::NoDone => f.write_str("NoDone"),
             Reason::AfterDone => f.write_str("AfterDone"),
+            Reason::NotEnabled { place } => write!(f, "NotEnabled place {place}"),
+            Reason::Unfinished => f.write_str("Unfinished"),
         }
     }
 }

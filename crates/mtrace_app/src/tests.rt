@@ -7,6 +7,9 @@ use std::alloc::{AllocError, Global};
 use std::test::Fail;
 use std::thread::Threads;
 
+mod generated;
+mod plays;
+
 const STORE_BUFFERING: &str = "mtest 1\nwords 2\nthread\nst 0\nld 1\nthread\nst 1\nld 0\nend\n";
 
 const MESSAGE_PASSING: &str = "mtest 1\nwords 2\nthread\nst 0\nst 1\nthread\nld 1\nld 0\nend\n";
@@ -740,7 +743,7 @@ const WORDS: [(&str, Status, &str); 10] = [
         Status::Words,
         "mtrace: words\n",
     ),
-    ("generate --seed 1", Status::NotBuilt, "mtrace: not built\n"),
+    ("race --seed 1", Status::NotBuilt, "mtrace: not built\n"),
 ];
 
 const ZEROS: &str =
@@ -962,7 +965,7 @@ fn faults_of_the_errors_change_no_status(rt: HostRuntime) -> Result<(), Fail> {
     Ok(())
 }
 
-const REFUSALS: [(Refusal, u8, &str); 7] = [
+const REFUSALS: [(Refusal, u8, &str); 9] = [
     (Refusal::Words, 2, "mtrace: words\n"),
     (
         Refusal::Input(InputFault {
@@ -971,6 +974,22 @@ const REFUSALS: [(Refusal, u8, &str); 7] = [
         }),
         3,
         "mtrace: input line 7: WrongCount want 2 got 10\n",
+    ),
+    (
+        Refusal::Input(InputFault {
+            line: 10,
+            reason: Reason::NotEnabled { place: 2 },
+        }),
+        3,
+        "mtrace: input line 10: NotEnabled place 2\n",
+    ),
+    (
+        Refusal::Input(InputFault {
+            line: 10,
+            reason: Reason::Unfinished,
+        }),
+        3,
+        "mtrace: input line 10: Unfinished\n",
     ),
     (Refusal::ReadFault, 4, "mtrace: read fault\n"),
     (

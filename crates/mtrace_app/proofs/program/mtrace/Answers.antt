@@ -1,8 +1,11 @@
+use Rattle.std.proofs.Common.{refl}
 use Rattle.mtrace_app.specs.Answers.{texts}
+use Rattle.mtrace_app.specs.Outputs.{input_of}
 use Rattle.mtrace_app.specs.Outside.{change}
 use Rattle.mtrace_app.proofs.Answered.{answers, ends_with, told_by, too_large_stays}
 use Rattle.mtrace_app.proofs.Causes.{where_told}
 use Rattle.mtrace_app.proofs.Due.{due_of}
+use Rattle.mtrace_app.proofs.NoAlarm.{not_found}
 use Rattle.mtrace_app.proofs.program.mtrace.Goals as goal
 
 pub returns-clause-answered : goal.returns-clause-answered
@@ -30,6 +33,15 @@ returns-clause-complete g c = λ s settings quiet.
     due_of (texts c.args.words.now) s source sink c.put_output-status.result c.told.result.now settings c.answer_words-answer.ensures.rest quiet
     (answers sink c.put_output-status.result (texts c.args.words.now) source c.answer_words-answer.result c.told.result.now c.answer_words-answer.ensures.answer c.put_output-status.ensures.put
     c.told.ensures.failed c.told.ensures.other)
+
+pub returns-clause-no_alarm : goal.returns-clause-no_alarm
+returns-clause-no_alarm g c = λ s settings free.
+    let source = change (g.S.Source.left c.args.source.now) (g.S.Source.left c.answer_words-answer.new.source) (g.S.Source.faults c.args.source.now) (g.S.Source.faults c.answer_words-answer.new.source) in
+    let sink = change (g.K.Sink.held c.args.sink.now) (g.K.Sink.held c.put_output-status.new.sink) (g.K.Sink.faults c.args.sink.now) (g.K.Sink.faults c.put_output-status.new.sink) in
+    not_found (texts c.args.words.now) s source sink c.put_output-status.result c.told.result.now settings (λ bytes text is_clean out. c.machines_raise_no_alarm.ensures s bytes text is_clean free out)
+    (answers sink c.put_output-status.result (texts c.args.words.now) source c.answer_words-answer.result c.told.result.now c.answer_words-answer.ensures.answer c.put_output-status.ensures.put
+    c.told.ensures.failed c.told.ensures.other)
+    (input_of s source.before) refl
 
 pub returns-clause-too_large : goal.returns-clause-too_large
 returns-clause-too_large g c =

@@ -1,18 +1,18 @@
 use Rattle.std.proofs.Common.{◌∙◌}
 use Rattle.std.proofs.lemmas.Result.{err_from_is_err_and}
 use Rattle.mtrace_app.proofs.Counts.{counted_here, if_ok_more, output_here, refuses_input, too_large}
-use Rattle.mtrace_app.proofs.check.check.Goals as goal
+use Rattle.mtrace_app.proofs.input.output_for_input.Goals as goal
 
 pub returns-in_err-read-clause-refused : goal.returns-in_err-read-clause-refused
 returns-in_err-read-clause-refused c =
     let p = err_from_is_err_and c.from_residual.result c.from_residual.ensures.1 in
-    rw (p.1, p.2) (refuses_input c.args.settings.now c.requires.command c.args.input.now c.in_err-read.field-0.0 c.in_err-read.ensures.err)
+    rw (p.1, p.2) (refuses_input c.args.settings.now c.args.input.now c.in_err-read.field-0.0 c.in_err-read.ensures.err)
 
 pub returns-in-Err-clause-refused : goal.returns-in-Err-clause-refused
 returns-in-Err-clause-refused c =
     let read = c.in_ok-read.read in
     let ok = c.in_ok-read.ensures.ok in
-    too_large c.args.settings.now c.requires.command c.args.input.now read.test ok.0 read.runs read.tally ok.1 ok.2 c.from.result c.in-Err.size (c.from.ensures ∙ c.loads.ensures.count) c.in-Err.ensures.pass
+    too_large c.args.settings.now c.args.input.now read.test ok.0 read.runs read.tally ok.1 ok.2 c.from.result c.in-Err.size (c.from.ensures ∙ c.loads.ensures.count) c.in-Err.ensures.pass
 
 pub returns-clause-output : goal.returns-clause-output
 returns-clause-output c =
@@ -23,6 +23,6 @@ returns-clause-output c =
     let fit = c.in_default.ensures.fit in
     if_ok_more c.report_of.result _ _
     (λ output report.
-    output_here s c.requires.command c.args.input.now read.test ok.0 read.runs read.tally ok.1 ok.2 c.from.result same fit output.text.items output.is_clean
-    (report ok.0 (counted_here s c.requires.command c.args.input.now read.test ok.0 read.runs read.tally ok.1 ok.2 c.from.result same fit)))
+    output_here s c.args.input.now read.test ok.0 read.runs read.tally ok.1 ok.2 c.from.result same fit output.text.items output.is_clean c.requires.built c.requires.reports
+    (report ok.0 (counted_here s c.args.input.now read.test ok.0 read.runs read.tally ok.1 ok.2 c.from.result same fit)))
     c.report_of.ensures.report

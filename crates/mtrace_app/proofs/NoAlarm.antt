@@ -1,0 +1,159 @@
+-- A machine without a fault gives nothing that its own memory model, or a weaker one, forbids.
+use Rattle.std.proofs.Common.{◌≡◌, ◌≢◌, ◌∙◌, ℕ, List, [], ◌∷◌, map, Bool, true, false, refl, sym, ap, subst, not, ◌&&◌}
+use Rattle.std.specs.Prelude.{Option, Some, None, IfSome, IsTrue, ◌||◌}
+use Rattle.std.specs.List.{AllByRecursion}
+use Rattle.std.specs.Option.{option_map}
+use Rattle.std.specs.Map.{keys_of}
+use Rattle.tally.specs.declared.outcome.Outcome.{Outcome}
+use Rattle.tally.specs.declared.outcome.Outcome.TheVariants.{Inside, Outside}
+use Rattle.test_lang.specs.declared.op.MemModel.{MemModel}
+use Rattle.test_lang.specs.declared.step.Step.{Step}
+use Rattle.test_lang.specs.declared.target.Fault.{Fault}
+use Rattle.test_lang.specs.declared.target.Fault.TheVariants as faults
+use Rattle.test_lang.specs.declared.target.Target.{Target}
+use Rattle.test_lang.specs.Edges.{IsRunAcyclic, IsRunOrder}
+use Rattle.test_lang.specs.Models.{is_no_stronger}
+use Rattle.test_lang.specs.Program.{Program, IsWithinLimits}
+use Rattle.test_lang.specs.Runs.{IsInside, outside_of, value_read}
+use Rattle.test_lang.specs.Signatures.{Means}
+use Rattle.test_lang.specs.Play.Machines.{model_of}
+use Rattle.test_lang.specs.Play.Plays.{IsDonePlay, effects_of, run_of}
+use Rattle.run_text.specs.Items.{AreLinesOf}
+use Rattle.signature_plan.specs.Outcomes.{outcome_by}
+use Rattle.verdict_report.specs.declared.report.Judged.{Judged}
+use Rattle.verdict_report.specs.declared.report.Judged.TheVariants.{Ok, Cycle}
+use Rattle.verdict_report.specs.Lines.{has_cycle, has_outside, is_ok, signatures}
+use Rattle.command_line.specs.declared.meaning.Command.{Command}
+use Rattle.command_line.specs.declared.meaning.Command.TheVariants.{Replay}
+use Rattle.command_line.specs.declared.meaning.Settings.{Settings}
+use Rattle.command_line.specs.Settings.{HasSettings}
+use Rattle.mtrace_app.specs.declared.refusal.Refusal.{Refusal}
+use Rattle.mtrace_app.specs.declared.refusal.Refusal.TheVariants.{Words, NotBuilt, ReadFault, Input, TooLarge}
+use Rattle.mtrace_app.specs.declared.status.Status.{Status}
+use Rattle.mtrace_app.specs.declared.status.Status.TheVariants.{Found}
+use Rattle.mtrace_app.specs.Alarms.{IsAlarmFree}
+use Rattle.mtrace_app.specs.Answers.{IsAnswered, refused, written, cut_off, no_memory}
+use Rattle.mtrace_app.specs.Inputs.{ArePlayedRuns, IsLineOfPlay, RecordsBy}
+use Rattle.mtrace_app.specs.Outputs.{IsOfInput, IsOutputOf, input_of, reports}
+use Rattle.mtrace_app.specs.Outside.{Change}
+use Rattle.mtrace_app.specs.Refusals.{status_of}
+use Rattle.mtrace_app.specs.Status.{output_status}
+use Rattle.mtrace_app.specs.Report.{AreJudged, IsReport, IsVerdict}
+use Rattle.mtrace_app.proofs.ByCommand.{report_in_output}
+use Rattle.mtrace_app.proofs.OneSettings.{one_settings}
+use Rattle.mtrace_app.proofs.Meanings.{AreOutcomes, means_by, tallied_outcomes}
+
+-- a run that is inside, and has an order
+abbrev pub IsAllowed : MemModel → Program → List ℕ → Type 0
+IsAllowed model p run = IsInside p run × IsRunAcyclic model p run
+
+-- ---- allowed runs have a clean report
+
+-- a run that is inside has no outcome outside
+not_outside : (p : Program) (run : List ℕ) (found : Option (ℕ × ℕ)) (node value : ℕ) → found ≡ None → outcome_by p run found ≡ Outside node value → ⊥
+not_outside p run None node value e out = cc
+not_outside p run (Some load) node value e out = cc
+
+none_found : (p : Program) (run : List ℕ) → IsInside p run → outside_of p run ≡ None
+none_found p run h = ap (λ (o : Option ℕ). option_map {U = ℕ × ℕ} (λ load. (load, value_read p run load)) o) h.none_outside
+
+module _ (model : MemModel) (p : Program) where
+  pub none_outside : (pairs : List (Outcome × ℕ)) → AreOutcomes (IsAllowed model p) p (keys_of pairs) → has_outside pairs ≡ false
+  none_outside [] h = refl
+  none_outside ((Inside words, count) ∷ more) h = none_outside more h.1
+  none_outside ((Outside node value, count) ∷ more) h = absurd (not_outside p h.0.0 (outside_of p h.0.0) node value (none_found p h.0.0 h.0.1.0) h.0.2)
+
+  -- the verdict on an allowed run is no cycle
+  ok_or_cycle : (run : List ℕ) (judged : Judged) (rest : Bool) → IsRunAcyclic model p run → IsVerdict model p run judged → rest ≡ false → (not (is_ok judged) || rest) ≡ false
+  ok_or_cycle run Ok rest allowed verdict none = none
+  ok_or_cycle run (Cycle nodes) rest allowed verdict none = absurd (verdict.0 allowed.0 allowed.1)
+
+  pub none_cycles : (pairs : List (Outcome × ℕ)) (found : List Judged) → AreOutcomes (IsAllowed model p) p (keys_of pairs) → AreJudged model p (signatures pairs) found → has_cycle found ≡ false
+  none_cycles [] [] h judged = refl
+  none_cycles [] (first ∷ more) h judged = absurd judged
+  none_cycles ((Outside node value, count) ∷ pairs) found h judged = none_cycles pairs found h.1 judged
+  none_cycles ((Inside words, count) ∷ pairs) [] h judged = absurd judged
+  none_cycles ((Inside words, count) ∷ pairs) (first ∷ more) h judged =
+      let run = h.0.0 in
+      let inside = h.0.1.0 in
+      let means : Means p words run = means_by p run words (outside_of p run) inside.is_run refl h.0.2 in
+      let same : run ≡ judged.0.run = judged.0.one run means in
+      ok_or_cycle judged.0.run first (has_cycle more) (subst (IsRunAcyclic model p) same h.0.1.1) judged.0.verdict (none_cycles pairs more h.1 judged.1)
+
+  pub clean_report : (chunk : ℕ) (runs : List (List ℕ)) (text : List ℕ) (is_clean : Bool) → AllByRecursion (IsAllowed model p) runs → IsReport model chunk p runs text is_clean → is_clean ≡ true
+  clean_report chunk runs text is_clean allowed report =
+      let f = report.findings in
+      let outcomes = tallied_outcomes (IsAllowed model p) p runs f.tally allowed report.found.counts in
+      let cycles = none_cycles f.tally f.verdicts outcomes report.found.judged in
+      let outside = none_outside f.tally outcomes in
+      report.clean ∙ ap (λ (b : Bool). not b && not (has_outside f.tally)) cycles ∙ ap (λ (b : Bool). not false && not b) outside
+
+-- ---- plays without a fault are allowed
+
+-- what the law on plays says
+pub record IsLaw : Type 0 where
+  pub inside : (target : Target) (p : Program) (steps : List Step) → IsWithinLimits p → IsDonePlay target faults.None p steps → IsInside p (run_of target faults.None p steps)
+  pub ordered : (target : Target) (m : MemModel) (p : Program) (steps : List Step) → IsTrue (is_no_stronger m (model_of target)) → IsDonePlay target faults.None p steps
+      → IsRunOrder m p (run_of target faults.None p steps) (effects_of target faults.None p steps)
+
+module _ (law : IsLaw) (target : Target) (model : MemModel) (p : Program) (limits : IsWithinLimits p) (weaker : IsTrue (is_no_stronger model (model_of target))) where
+  allowed_play : (steps : List Step) → IsDonePlay target faults.None p steps → IsAllowed model p (run_of target faults.None p steps)
+  allowed_play steps done = (law.inside target p steps limits done, (effects_of target faults.None p steps, law.ordered target model p steps weaker done))
+
+  allowed_plays : (plays : List (List Step)) (lines : List (List ℕ)) → AreLinesOf (IsLineOfPlay (record { target = target; fault = faults.None; test = p })) plays lines
+      → AllByRecursion (IsAllowed model p) (map (run_of target faults.None p) plays)
+  allowed_plays [] [] each = tt
+  allowed_plays [] (line ∷ lines) each = absurd each
+  allowed_plays (steps ∷ plays) [] each = absurd each
+  allowed_plays (steps ∷ plays) (line ∷ lines) each = (allowed_play steps each.0.is_done_play, allowed_plays plays lines each.1)
+
+-- ---- so nothing is found
+
+replay_reports : (c : Command) → c ≡ Replay → IsTrue (reports c)
+replay_reports c e = ap reports e
+
+replayed : (c : Command) (s : Settings) (bytes : List ℕ) (p : Program) (runs : List (List ℕ)) → c ≡ Replay → RecordsBy c s bytes p runs → ArePlayedRuns s bytes p runs
+replayed c s bytes p runs e h = (subst (λ (d : Command). RecordsBy d s bytes p runs) e h).1
+
+allowed_runs : (law : IsLaw) (s : Settings) (bytes : List ℕ) (p : Program) (runs : List (List ℕ)) → IsAlarmFree s → ArePlayedRuns s bytes p runs → AllByRecursion (IsAllowed s.model p) runs
+allowed_runs law s bytes p runs free played =
+    let each = subst (λ (f : Fault). AreLinesOf (IsLineOfPlay (record { target = s.target; fault = f; test = p })) played.schedules played.text.text.lines) free.no_fault played.text.text.each in
+    let all = allowed_plays law s.target s.model p played.text.test.limits free.model played.schedules played.text.text.lines each in
+    let same : map (run_of s.target faults.None p) played.schedules ≡ runs =
+    ap (λ (f : Fault). map (run_of s.target f p) played.schedules) (sym free.no_fault) ∙ sym played.played in
+    subst (AllByRecursion (IsAllowed s.model p)) same all
+
+pub no_alarm : (law : IsLaw) (s : Settings) (bytes text : List ℕ) (is_clean : Bool) → IsAlarmFree s → IsOutputOf s bytes text is_clean → is_clean ≡ true
+no_alarm law s bytes text is_clean free h =
+    clean_report s.model h.test s.chunk h.runs text is_clean (allowed_runs law s bytes h.test h.runs free (replayed s.command s bytes h.test h.runs free.played h.recorded))
+    (report_in_output s.command s h.test h.runs text is_clean (replay_reports s.command free.played) h.output)
+
+-- ---- no call is answered by a finding
+
+refusal_is_no_finding : (refusal : Refusal) → Found ≡ status_of refusal → ⊥
+refusal_is_no_finding Words e = cc
+refusal_is_no_finding NotBuilt e = cc
+refusal_is_no_finding ReadFault e = cc
+refusal_is_no_finding (Input fault) e = cc
+refusal_is_no_finding (TooLarge size) e = cc
+
+clean_is_no_finding : (is_clean : Bool) → is_clean ≡ true → Found ≡ output_status is_clean → ⊥
+clean_is_no_finding true e found = cc
+clean_is_no_finding false e found = cc
+
+module _ (words : List (List ℕ)) (s : Settings) (source sink : Change) (line bytes : List ℕ) (settings : HasSettings words s) (clean : (bytes text : List ℕ) (is_clean : Bool) → IsOutputOf s bytes text is_clean → is_clean ≡ true) (e : input_of s source.before ≡ Some bytes) where
+  output_of : (t : Settings) (text : List ℕ) (is_clean : Bool) → HasSettings words t → IsOfInput t source (λ b. IsOutputOf t b text is_clean) → IsOutputOf s bytes text is_clean
+  output_of t text is_clean there h =
+      let here = subst (λ (x : Settings). IsOfInput x source (λ b. IsOutputOf x b text is_clean)) (one_settings words t s there settings) h in
+      subst (λ (i : Option (List ℕ)). IfSome i (λ b. IsOutputOf s b text is_clean)) e here.1
+
+  never_found : (status : Status) → IsAnswered words source sink status line → status ≡ Found → ⊥
+  never_found status (refused refusal cause is kept told) found = refusal_is_no_finding refusal (sym found ∙ is)
+  never_found status (written text is_clean h is appended told) found = clean_is_no_finding is_clean (clean bytes text is_clean (output_of h.0 text is_clean h.1 h.2)) (sym found ∙ is)
+  never_found status (cut_off text is_clean h fault is appended told) found = let both = sym found ∙ is in cc
+  never_found status (no_memory is kept told) found = let both = sym found ∙ is in cc
+
+pub not_found : (words : List (List ℕ)) (s : Settings) (source sink : Change) (status : Status) (line : List ℕ) → HasSettings words s → ((bytes text : List ℕ) (is_clean : Bool) → IsOutputOf s bytes text is_clean → is_clean ≡ true) → IsAnswered words source sink status line → (input : Option (List ℕ)) → input_of s source.before ≡ input
+    → IfSome input (λ bytes. status ≢ Found)
+not_found words s source sink status line settings clean h None e = tt
+not_found words s source sink status line settings clean h (Some bytes) e = never_found words s source sink line bytes settings clean e status h

@@ -1,0 +1,22 @@
+use Rattle.std.proofs.Common.{◌≡◌, sym, subst}
+use Rattle.std.specs.Prelude.{IfErr, IsTrue}
+use Rattle.command_line.specs.declared.meaning.Command.{Command}
+use Rattle.mtrace_app.specs.declared.refusal.InputFault.{InputFault}
+use Rattle.mtrace_app.specs.declared.refusal.Refusal.TheVariants.{Input}
+use Rattle.mtrace_app.specs.Failures.{IfRefused}
+use Rattle.mtrace_app.specs.Inputs.{RefusesBy}
+use Rattle.mtrace_app.specs.Outputs.{is_built}
+use Rattle.mtrace_app.proofs.Counts.{if_err_more, refused_more}
+use Rattle.mtrace_app.proofs.input.read_recorded.Goals as goal
+
+pub returns-in-Check-clause-err : goal.returns-in-Check-clause-err
+returns-in-Check-clause-err c =
+    subst (λ (d : Command). IfErr c.read_runs.result (IfRefused (λ refusal. (fault : InputFault) × (refusal ≡ Input fault) × RefusesBy d c.args.settings.now c.args.input.now fault))) (sym c.in-Check.is) c.read_runs.ensures.err
+
+pub returns-in-Replay-clause-err : goal.returns-in-Replay-clause-err
+returns-in-Replay-clause-err c =
+    let s = c.args.settings.now in
+    let machine = subst (λ (d : Command). IsTrue (is_built d s.target)) c.in-Replay.is c.requires.built in
+    if_err_more c.read_plays.result _ _
+    (λ failure h. refused_more failure _ _
+    (λ refusal r. (r.0, r.1, subst (λ (d : Command). RefusesBy d s c.args.input.now r.0) (sym c.in-Replay.is) (machine, r.2))) h) c.read_plays.ensures.err
