@@ -1,0 +1,15 @@
+pub mod ListChanges
+pub mod Turns
+pub mod EntriesAfter
+pub mod Forwarding
+pub mod Drains
+pub mod ChoiceLists
+pub mod Bounds
+pub mod Steps
+pub mod Ranges
+pub mod Bytes
+pub mod Shown
+pub mod Openings
+pub mod Goings
+pub mod Elsewhere
+pub mod Counting

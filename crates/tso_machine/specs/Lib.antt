@@ -1,0 +1,4 @@
+pub mod Queues
+pub mod Moments
+pub mod Places
+pub mod Moves
