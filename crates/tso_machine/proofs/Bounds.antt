@@ -42,12 +42,6 @@ module _ (m : Moment) (order : StoreOrder) (e : m.setup.target ≡ target_of ord
         ap (λ (xs : List ℕ). get_or xs t 0) s.shows.positions
         ∙ get_or-map_below (position m.setup.test (state_after m.setup steps).executed) (length m.setup.test.threads) t 0 lt
 
-    pub position_from : (t : ℕ) → t < length m.setup.test.threads → first_node m.setup.test t ≤ get_or m.positions t 0
-    position_from t lt = let at = position_at t lt in let from = turn.from t in omega (arith, at, from)
-
-    pub position_to : (t : ℕ) → t < length m.setup.test.threads → get_or m.positions t 0 ≤ first_node m.setup.test t + thread_length m.setup.test t
-    position_to t lt = let at = position_at t lt in let to = turn.to t in omega (arith, at, to)
-
     -- the next operation, by the position
     pub next_by : (t : ℕ) → t < length m.setup.test.threads → next_of m.setup.test (state_after m.setup steps) t
         ≡ cond (nat_lt (get_or m.positions t 0) (first_node m.setup.test t + thread_length m.setup.test t)) (Some (get_or m.positions t 0)) None

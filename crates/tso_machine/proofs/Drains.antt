@@ -1,11 +1,11 @@
 -- The places of a buffer that can be drained.
-use Rattle.std.proofs.Common.{◌≡◌, ◌∙◌, ℕ, zero, suc, ◌<◌, ◌≤◌, List, [], ◌∷◌, ◌++◌, Bool, true, false, not, ◌||◌, cond, take, length, get_or, Contains, refl, ap, arith, Option, None, Some}
+use Rattle.std.proofs.Common.{◌≡◌, ◌∙◌, ℕ, zero, suc, ◌<◌, List, [], ◌∷◌, ◌++◌, Bool, true, false, not, ◌||◌, cond, take, length, get_or, Contains, refl, ap, arith, Option, None, Some}
 use Rattle.std.specs.Prelude.{◌==◌, filter, slice_get}
 use Rattle.std.specs.List.{list_any}
 use Rattle.std.specs.Option.{option_map, option_map_or}
 use Rattle.std.proofs.lemmas.Bool.{ne_eqb}
 use Rattle.std.proofs.lemmas.List.Elements.{All-contains, filter-append}
-use Rattle.std.proofs.lemmas.Option.{same_Some, slice_get-get_or, slice_get_past}
+use Rattle.std.proofs.lemmas.Option.{same_Some, slice_get-get_or}
 use Rattle.orders.specs.Orders.{nodes_below}
 use Rattle.orders.proofs.Below.{all-below}
 use Rattle.test_lang.specs.declared.step.Step.TheVariants.{Drain}
@@ -44,10 +44,6 @@ drain_within order fault p st t place lt =
     drain_by order fault p st t place
     ∙ ap (λ found. option_map_or (leaves_as order fault p (buffer p st t) place) found false) (slice_get-get_or (buffer p st t) place 0 lt)
     ∙ leaves_at order fault p (buffer p st t) place
-
-pub drain_past : (order : StoreOrder) (fault : Fault) (p : Program) (st : State) (t place : ℕ) → length (buffer p st t) ≤ place → is_enabled (target_of order) fault p st (Drain t place) ≡ false
-drain_past order fault p st t place past =
-    drain_by order fault p st t place ∙ ap (λ found. option_map_or (leaves_as order fault p (buffer p st t) place) found false) (slice_get_past (buffer p st t) place past)
 
 -- a list of them
 abbrev pub drains : StoreOrder → Fault → Program → List ℕ → List ℕ

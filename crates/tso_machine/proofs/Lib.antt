@@ -13,3 +13,4 @@ pub mod Openings
 pub mod Goings
 pub mod Elsewhere
 pub mod Counting
+pub mod Walks

@@ -1,11 +1,11 @@
 -- The buffers in one list of nodes, when an entry is pushed or leaves.
-use Rattle.std.proofs.Common.{◌≡◌, ◌∙◌, ℕ, zero, suc, ◌+◌, ◌-◌, ◌<◌, ◌≤◌, List, [], ◌∷◌, ◌++◌, map, length, get_or, set, All, refl, sym, ap, subst, arith, ◌⊎◌, inl, inr, Some}
+use Rattle.std.proofs.Common.{◌≡◌, ◌∙◌, ℕ, zero, suc, ◌+◌, ◌-◌, ◌<◌, ◌≤◌, List, [], ◌∷◌, ◌++◌, map, length, get_or, set, refl, sym, ap, subst, arith, ◌⊎◌, inl, inr, Some}
 use Rattle.std.specs.Prelude.{slice_get, slice_range}
 use Rattle.std.specs.List.{remove, CopiedTo, SameBelow, SameFrom}
-use Rattle.std.proofs.lemmas.Bool.{cases_eq, cases_lt, cases_order}
+use Rattle.std.proofs.lemmas.Bool.{cases_lt, cases_order}
 use Rattle.std.proofs.lemmas.List.{get_or-set_same, get_or-set_other, get_or-map, length-map, length-set, map-set, set-get_or, same_lists}
 use Rattle.std.proofs.lemmas.List.Edits.{between_more, between_none, get_or-between, get_or-remove_above, get_or-remove_below, length-between, length-remove}
-use Rattle.std.proofs.lemmas.List.Elements.{All-set, All-map, All-weaker, All-from_get_or}
+use Rattle.std.proofs.lemmas.List.Elements.{All-map, All-weaker, All-from_get_or}
 use Rattle.std.proofs.lemmas.Option.{slice_get_within, get_or_from_slice_get}
 use Rattle.orders.specs.Orders.{nodes_below}
 use Rattle.test_lang.specs.Program.{Program, first_node, op_count, thread_length}
@@ -84,14 +84,6 @@ module _ (nodes : List ℕ) (ranges : List Range) (sound : AreRanges (length nod
       let long = length-between nodes range.begin range.end (omega (arith, into, inside)) in
       omega (arith, same, long, lt)
 
-  pub few_entries : length (part nodes range) ≤ range.limit - range.first
-  few_entries =
-      let front = is_range.front in
-      let into = is_range.within in
-      let inside = is_range.inside in
-      let long = length-between nodes range.begin range.end (omega (arith, into, inside)) in
-      omega (arith, long, front, into)
-
   -- another range stands in front of this one's first place or behind its limit
   apart_from : (j : ℕ) (other : Range) → slice_get ranges j ≡ Some other → (j ≡ t → ⊥) → (other.limit ≤ range.first) ⊎ (range.limit ≤ other.first)
   apart_from j other e apart =
@@ -109,27 +101,7 @@ module _ (nodes : List ℕ) (ranges : List Range) (sound : AreRanges (length nod
   other_is_range j other e = subst (IsRange (length nodes)) (get_or_from_slice_get ranges j other other e) (sound.each j other (slice_get_within ranges j other e))
 
   -- a range with the same first place and the same limit in its place
-  module _ (more : List ℕ) (next : Range) (long : length more ≡ length nodes) (first : next.first ≡ range.first) (limit : next.limit ≡ range.limit) (stands : IsRange (length more) next) where
-    kept_at : (k : ℕ) (d : Range) → ((get_or (set ranges t next) k d).first ≡ (get_or ranges k d).first) × ((get_or (set ranges t next) k d).limit ≡ (get_or ranges k d).limit)
-    kept_at k d = elim (cases_eq k t) [
-      | inl same ↦
-          let new : get_or (set ranges t next) k d ≡ next = ap (λ (i : ℕ). get_or (set ranges t next) i d) same ∙ get_or-set_same ranges t next d within in
-          let old : get_or ranges k d ≡ range = ap (λ (i : ℕ). get_or ranges i d) same ∙ at d in
-          (ap (λ (r : Range). r.first) new ∙ first ∙ sym (ap (λ (r : Range). r.first) old), ap (λ (r : Range). r.limit) new ∙ limit ∙ sym (ap (λ (r : Range). r.limit) old))
-      | inr other ↦ let same = get_or-set_other ranges t k next d other in (ap (λ (r : Range). r.first) same, ap (λ (r : Range). r.limit) same)
-    ]
-
-    pub ranges_kept : AreRanges (length more) (set ranges t next)
-    ranges_kept = record {
-      each = All-set (IsRange (length more)) ranges t next stands (subst (λ (n : ℕ). All (IsRange n) ranges) (sym long) sound.each);
-      apart = λ i j d lt below.
-          let count = length-set ranges t next in
-          let old = sound.apart i j d lt (omega (arith, below, count)) in
-          let a = (kept_at i d).1 in
-          let b = (kept_at j d).0 in
-          omega (arith, old, a, b);
-    }
-
+  module _ (more : List ℕ) (next : Range) (long : length more ≡ length nodes) (first : next.first ≡ range.first) (limit : next.limit ≡ range.limit) where
     pub rooms_kept : (queues_of more (set ranges t next)).rooms ≡ (queues_of nodes ranges).rooms
     rooms_kept =
         map-set (λ (r : Range). r.limit - r.first) ranges t next
@@ -164,17 +136,6 @@ module _ (nodes : List ℕ) (ranges : List Range) (sound : AreRanges (length nod
     long_as : length (set nodes range.end n) ≡ length nodes
     long_as = length-set nodes range.end n
 
-    stands_longer : IsRange (length (set nodes range.end n)) longer
-    stands_longer = record {
-      front = is_range.front;
-      forward = let forward = is_range.forward in omega (arith, forward);
-      within = omega (arith, room);
-      inside = let inside = is_range.inside in let long = long_as in omega (arith, inside, long);
-    }
-
-    pub pushed_ranges : AreRanges (length (set nodes range.end n)) (set ranges t longer)
-    pushed_ranges = ranges_kept (set nodes range.end n) longer long_as refl refl stands_longer
-
     part_longer : part (set nodes range.end n) longer ≡ part nodes range ++ n ∷ []
     part_longer =
         let forward = is_range.forward in
@@ -193,29 +154,18 @@ module _ (nodes : List ℕ) (ranges : List Range) (sound : AreRanges (length nod
         same_queues (queues_of (set nodes range.end n) (set ranges t longer)).entries (with_entry (queues_of nodes ranges) t n).entries
         (queues_of (set nodes range.end n) (set ranges t longer)).pushed (with_entry (queues_of nodes ranges) t n).pushed
         (queues_of (set nodes range.end n) (set ranges t longer)).rooms (queues_of nodes ranges).rooms
-        (entries_kept (set nodes range.end n) longer long_as refl refl stands_longer
+        (entries_kept (set nodes range.end n) longer long_as refl refl
         (λ k d lt. get_or-set_other nodes range.end k n d (λ is. omega (arith, is, lt, front, forward)))
         (λ k d le. get_or-set_other nodes range.end k n d (λ is. omega (arith, is, le, room)))
         ∙ ap (set (queues_of nodes ranges).entries t) (part_longer ∙ ap (λ (xs : List ℕ). xs ++ n ∷ []) (sym entries_are)))
         (map-set (λ (r : Range). r.end - r.first) ranges t longer ∙ ap (set (queues_of nodes ranges).pushed t) (one ∙ ap (λ (k : ℕ). k + 1) (sym pushed_are)))
-        (rooms_kept (set nodes range.end n) longer long_as refl refl stands_longer)
+        (rooms_kept (set nodes range.end n) longer long_as refl refl)
 
   -- the entry at a place leaves, and those before it moved up
   module _ (place : ℕ) (more : List ℕ) (inside : range.begin + place < range.end) (long : length more ≡ length nodes)
       (copied : CopiedTo nodes more range.begin (range.begin + 1) place) (below : SameBelow nodes more (range.begin + 1)) (above : SameFrom nodes more (range.begin + 1 + place)) where
     abbrev pub shorter : Range
     shorter = record { first = range.first; begin = range.begin + 1; end = range.end; limit = range.limit }
-
-    stands_shorter : IsRange (length more) shorter
-    stands_shorter = record {
-      front = let front = is_range.front in omega (arith, front);
-      forward = omega (arith, inside);
-      within = is_range.within;
-      inside = let inside = is_range.inside in omega (arith, inside, long);
-    }
-
-    pub left_ranges : AreRanges (length more) (set ranges t shorter)
-    left_ranges = ranges_kept more shorter long refl refl stands_shorter
 
     part_shorter : part more shorter ≡ remove (part nodes range) place
     part_shorter =
@@ -252,10 +202,10 @@ module _ (nodes : List ℕ) (ranges : List Range) (sound : AreRanges (length nod
         same_queues (queues_of more (set ranges t shorter)).entries (without_entry (queues_of nodes ranges) t place).entries
         (queues_of more (set ranges t shorter)).pushed (queues_of nodes ranges).pushed
         (queues_of more (set ranges t shorter)).rooms (queues_of nodes ranges).rooms
-        (entries_kept more shorter long refl refl stands_shorter (λ k d lt. below k d (omega (arith, lt, front))) (λ k d le. above k d (omega (arith, le, to, inside)))
+        (entries_kept more shorter long refl refl (λ k d lt. below k d (omega (arith, lt, front))) (λ k d le. above k d (omega (arith, le, to, inside)))
         ∙ ap (set (queues_of nodes ranges).entries t) (part_shorter ∙ ap (λ (xs : List ℕ). remove xs place) (sym entries_are)))
         (map-set (λ (r : Range). r.end - r.first) ranges t shorter ∙ ap (set (queues_of nodes ranges).pushed t) (sym pushed_are) ∙ set-get_or (queues_of nodes ranges).pushed t 0)
-        (rooms_kept more shorter long refl refl stands_shorter)
+        (rooms_kept more shorter long refl refl)
 
 -- empty ranges
 

@@ -104,16 +104,6 @@ module _ (fault : Fault) (p : Program) (st : State) (t n : ℕ) (action : Action
   full : at_action (λ node. is_full_fence node.1) p n ≡ is_full_fence action
   full = at_action-of is_full_fence p n action is
 
-  pub unfenced_other : is_full_fence action ≡ false → true ≡ is_unfenced fault p st t n
-  unfenced_other other =
-      sym (or_true_left (not (at_action (λ node. is_full_fence node.1) p n) || frees_fences fault) (is_nil (buffer p st t))
-      (or_true_left (not (at_action (λ node. is_full_fence node.1) p n)) (frees_fences fault) (ap not (full ∙ other))))
-
-  pub unfenced_freed : frees_fences fault ≡ true → true ≡ is_unfenced fault p st t n
-  unfenced_freed freed =
-      sym (or_true_left (not (at_action (λ node. is_full_fence node.1) p n) || frees_fences fault) (is_nil (buffer p st t))
-      (ap (λ b. not (at_action (λ node. is_full_fence node.1) p n) || b) freed ∙ or_true_right (not (at_action (λ node. is_full_fence node.1) p n))))
-
   pub unfenced_empty : is_full_fence action ≡ true → frees_fences fault ≡ false → (xs : List ℕ) → xs ≡ buffer p st t → (length xs == 0) ≡ is_unfenced fault p st t n
   unfenced_empty fence freed xs same =
       sym (nil_is xs) ∙ ap is_nil same
@@ -185,11 +175,6 @@ module _ (m : Moment) (order : StoreOrder) (e : m.setup.target ≡ target_of ord
         one true = refl
         one false = refl
 
-  pub first_choice : (t : ℕ) → is_enabled_after m.setup steps (Execute t) ≡ true → slice_get (thread_choices m.setup steps t) 0 ≡ Some (Execute t)
-  first_choice t execute =
-      ap (λ (xs : List Step). slice_get xs 0) (choices_shown t)
-      ∙ ap (λ (b : Bool). slice_get (cond b (Execute t ∷ []) [] ++ map (Drain t) (drain_places m.setup steps t)) 0) execute
-
   pub later_choice : (t k place : ℕ) (b : Bool) → b ≡ is_enabled_after m.setup steps (Execute t) → cond b 1 0 ≤ k → slice_get (drain_places m.setup steps t) (k - cond b 1 0) ≡ Some place
       → slice_get (thread_choices m.setup steps t) k ≡ Some (Drain t place)
   later_choice t k place b execute le found =
@@ -219,11 +204,6 @@ module _ (m : Moment) (order : StoreOrder) (e : m.setup.target ≡ target_of ord
         (forwarded m.setup.test (buffered m.setup.test (state_after m.setup steps) load) (memory m.setup.fault m.setup.test (state_after m.setup steps) load))
     by Total = refl
     by Partial = refl
-
-  pub value_direct : (load : ℕ) → forwards_nothing m.setup.fault ≡ true → memory m.setup.fault m.setup.test (state_after m.setup steps) load ≡ value m.setup.target m.setup.fault m.setup.test (state_after m.setup steps) load
-  value_direct load nothing =
-      sym (value_by load ∙ ap (λ b. cond b (memory m.setup.fault m.setup.test (state_after m.setup steps) load)
-      (forwarded m.setup.test (buffered m.setup.test (state_after m.setup steps) load) (memory m.setup.fault m.setup.test (state_after m.setup steps) load))) nothing)
 
   pub value_found : (t load word : ℕ) (found : Option ℕ) → t < length m.setup.test.threads → IsNext m t load → action_at m.setup.test load ≡ Some (Load word) → forwards_nothing m.setup.fault ≡ false
       → found ≡ last_or None (filter (stores_to m.setup.test word) (get_or m.buffers t []))

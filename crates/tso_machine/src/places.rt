@@ -1,11 +1,12 @@
 //! The places of a buffer without order from which an entry may leave.
 ghost use Rattle.std.specs.Prelude.{◌≡◌, ◌<◌, ◌≤◌, All, Some, length, slice_get};
-ghost use Rattle.test_lang.specs.Program.{op_count};
+ghost use Rattle.test_lang.specs.Actions.{is_store_fence, op_of};
+ghost use Rattle.test_lang.specs.Program.{HasWordBelow, op_count};
 ghost use Rattle.test_lang.specs.Play.Machines.{holds_back};
-ghost use Rattle.tso_machine.specs.Places.{free_places, is_free};
+ghost use Rattle.tso_machine.specs.Places.{free_places, is_free, passes, with_met};
 
 use test_lang::op::{Action, FenceKind};
-use test_lang::test::Test;
+use test_lang::test::{MAX_WORDS, Test};
 
 /// Whether an action that waits keeps one behind it from passing: a store fence passes nothing and nothing passes it, and no store passes one to its word.
 fn holds_back(first: Action, second: Action) -> bool
@@ -47,15 +48,52 @@ pub fn is_free(test: &Test, entries: &[u32], place: u32) -> bool
     true
 }
 
-/// How many places there are from which an entry may leave.
+fn is_store_fence(action: Action) -> bool
+    ensures { result ≡ is_store_fence action }
+{
+    matches!(
+        action,
+        Action::Fence {
+            kind: FenceKind::Store
+        }
+    )
+}
+
+/// Whether the next entry may leave, by the words that were met before it and its place. No store fence was met. Its word is met then.
+fn passes(met: &mut [bool], action: Action, place: u32) -> bool
+    requires long { length met.old ≡ MAX_WORDS }
+    requires word { HasWordBelow MAX_WORDS (op_of action) }
+    ensures passes { result ≡ passes met.old action place }
+    ensures met { met.new ≡ with_met met.old action }
+{
+    match action {
+        Action::Load { word } | Action::Store { word } => {
+            let passes = !met[word as usize];
+            met[word as usize] = true;
+            passes
+        }
+        Action::Fence { kind } => match kind {
+            FenceKind::Store => place == 0,
+            FenceKind::Full | FenceKind::Load => true,
+        },
+    }
+}
+
+/// How many places there are from which an entry may leave. It looks at each entry once, and at none behind a store fence.
 pub fn count_free(test: &Test, entries: &[u32]) -> u32
     requires nodes { All (λ node. node < op_count test.now) entries.now }
     requires few { length entries.now ≤ 2048 }
+    requires words { test.now.words ≤ MAX_WORDS }
     ensures { result ≡ length (free_places test.now entries.now) }
 {
+    let mut met = [false; MAX_WORDS as usize];
     let mut count = 0;
     for place in 0..entries.len() as u32 {
-        count += u32::from(is_free(test, entries, place));
+        let action = test.action(entries[place as usize]);
+        count += u32::from(passes(&mut met, action, place));
+        if is_store_fence(action) {
+            return count;
+        }
     }
     count
 }
@@ -64,16 +102,22 @@ pub fn count_free(test: &Test, entries: &[u32]) -> u32
 pub fn nth_free(test: &Test, entries: &[u32], k: u32) -> u32
     requires nodes { All (λ node. node < op_count test.now) entries.now }
     requires few { length entries.now ≤ 2048 }
+    requires words { test.now.words ≤ MAX_WORDS }
     requires k { k < length (free_places test.now entries.now) }
     ensures { slice_get (free_places test.now entries.now) k ≡ Some result }
 {
+    let mut met = [false; MAX_WORDS as usize];
     let mut left = k;
     for place in 0..entries.len() as u32 {
-        let free = is_free(test, entries, place);
-        if free && left == 0 {
+        let action = test.action(entries[place as usize]);
+        let free = u32::from(passes(&mut met, action, place));
+        if left < free {
             return place;
         }
-        left -= u32::from(free);
+        left -= free;
+        if is_store_fence(action) {
+            break;
+        }
     }
     unreachable!()
 }

@@ -46,3 +46,6 @@ returns-in-Partial-clause-few c =
     let limit = c.entries-entries.ensures.few in
     let count = c.count_free.ensures in
     omega (arith, few, limit, count)
+
+pub count_free-requires-clause-words : goal.count_free-requires-clause-words
+count_free-requires-clause-words c = c.self.invariant.stands.limits.words

@@ -53,3 +53,6 @@ returns-in-Partial c =
     let free = drains_shown m Partial e steps s c.args.thread c.requires.thread ∙ drains-free m.setup.fault m.setup.test (get_or m.buffers c.args.thread []) some in
     let same = ap (λ (m : Moment). free_places m.setup.test c.entries.result.now) c.self.view_is ∙ ap (free_places m.setup.test) c.entries.ensures.entries in
     ap (λ (xs : List ℕ). slice_get xs c.args.k) (free ∙ sym same) ∙ c.nth_free.ensures
+
+pub nth_free-requires-clause-words : goal.nth_free-requires-clause-words
+nth_free-requires-clause-words c = c.self.invariant.stands.limits.words
