@@ -53,9 +53,11 @@ const STORE_FENCES: &[&[Action]] = &[&[ST_0, FENCE_ST, ST_1], &[LD_1, FENCE_ST, 
 
 const LOAD_FENCES: &[&[Action]] = &[&[ST_0, FENCE_LD, ST_1], &[LD_1, FENCE_LD, LD_0]];
 
+const FENCE_TWO_LOADS: &[&[Action]] = &[&[FENCE_LD, LD_0, LD_0]];
+
 const OWN_STORES: &[&[Action]] = &[&[ST_0, ST_0, LD_0]];
 
-const CASES: [Case; 22] = [
+const CASES: [Case; 23] = [
     // Loads of one word wait for each other, unless a fault spares them.
     Case {
         threads: ONE_STORE_TWO_LOADS,
@@ -190,6 +192,15 @@ const CASES: [Case; 22] = [
         refused: None,
         loads: &[2, 0],
         choices: &[(0, 1), (1, 1)],
+    },
+    // Where loads of one word are spared, the second still waits for a fence that both wait for.
+    Case {
+        threads: FENCE_TWO_LOADS,
+        fault: Fault::LoadLoad,
+        steps: &[(0, 2)],
+        refused: Some(0),
+        loads: &[0, 0],
+        choices: &[(0, 0)],
     },
     // A load gives its own thread's last store where that wasn't performed, and memory's value where it was.
     Case {
