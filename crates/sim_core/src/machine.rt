@@ -6,10 +6,12 @@ ghost use Rattle.test_lang.specs.declared.step.Step.{Step};
 
 use test_lang::step::Step;
 
-/// A machine that plays a test, one step after the other. No call takes memory.
+/// A machine that plays a test, one step after the other. No call takes memory. What makes a machine says its setup, and
+/// that it stands for no step.
 ///
-/// A machine that isn't done has a choice. Each step brings it nearer to its end by one: so many steps are left as
-/// operations that weren't executed, and operations that wait in a buffer or will.
+/// By the laws of plays (`test_lang::plays`) the choices are the enabled steps (`choices_are_the_enabled_steps`), a machine that
+/// isn't done has one (`plays_go_on`), and each step brings it nearer to its end by one: at most two steps for each operation are
+/// left in the opening state, and none where all is done (`steps_left_fall`).
 pub trait Machine {
     /// What the machine is, and what it plays.
     ghost setup: { Self → Setup };

@@ -13,8 +13,8 @@ pub enum PlayFault {
     /// The step at this place, counted from 0, isn't enabled.
     #[error("the step at place {place} isn't enabled")]
     NotEnabled { place: u32 },
-    /// All steps were taken, and operations are left.
-    #[error("operations are left behind the last step")]
+    /// All steps were taken, and some operation hasn't taken effect.
+    #[error("some operation hasn't taken effect")]
     Unfinished,
 }
 
