@@ -17,26 +17,26 @@ use Rattle.mtrace_app.proofs.SomePlay.{some_meaning_of_plays}
 
 pub one_meaning_by : (c : Command) (s : Settings) (bytes : List ℕ) (p q : Program) (runs others : List (List ℕ)) → RecordsBy c s bytes p runs → RecordsBy c s bytes q others → (p ≡ q) × (runs ≡ others)
 one_meaning_by Check s bytes p q runs others h k = one_meaning bytes p q runs others h k
-one_meaning_by Replay s bytes p q runs others h k = one_meaning_of_plays s bytes p q runs others h.1 k.1
+one_meaning_by Replay s bytes p q runs others h k = one_meaning_of_plays s bytes p q runs others h k
 one_meaning_by Generate s bytes p q runs others h k = (h.0 ∙ sym k.0, h.1 ∙ sym k.1)
 one_meaning_by c s bytes p q runs others h k = absurd h
 
 pub not_both_by : (c : Command) (s : Settings) (bytes : List ℕ) (p : Program) (runs : List (List ℕ)) (fault : InputFault) → RecordsBy c s bytes p runs → RefusesBy c s bytes fault → ⊥
 not_both_by Check s bytes p runs fault h r = not_both bytes p runs fault h r
-not_both_by Replay s bytes p runs fault h r = not_both_plays s bytes p runs fault h.1 r.1
+not_both_by Replay s bytes p runs fault h r = not_both_plays s bytes p runs fault h r
 not_both_by Generate s bytes p runs fault h r = absurd r
 not_both_by c s bytes p runs fault h r = absurd h
 
 -- only commands that are built are said to record or to refuse anything, or to write a report
-pub records_built : (c : Command) (s : Settings) (bytes : List ℕ) (p : Program) (runs : List (List ℕ)) → RecordsBy c s bytes p runs → IsTrue (is_built c s.target)
+pub records_built : (c : Command) (s : Settings) (bytes : List ℕ) (p : Program) (runs : List (List ℕ)) → RecordsBy c s bytes p runs → IsTrue (is_built c)
 records_built Check s bytes p runs h = refl
-records_built Replay s bytes p runs h = h.0
+records_built Replay s bytes p runs h = refl
 records_built Generate s bytes p runs h = refl
 records_built c s bytes p runs h = absurd h
 
-pub refuses_built : (c : Command) (s : Settings) (bytes : List ℕ) (fault : InputFault) → RefusesBy c s bytes fault → IsTrue (is_built c s.target)
+pub refuses_built : (c : Command) (s : Settings) (bytes : List ℕ) (fault : InputFault) → RefusesBy c s bytes fault → IsTrue (is_built c)
 refuses_built Check s bytes fault h = refl
-refuses_built Replay s bytes fault h = h.0
+refuses_built Replay s bytes fault h = refl
 refuses_built c s bytes fault h = absurd h
 
 -- the output of a command that reports is a report
@@ -48,14 +48,11 @@ report_in_output c s p runs text is_clean reported h = absurd h
 
 pub one_refusal_by : (c : Command) (s : Settings) (bytes : List ℕ) (fault other : InputFault) → RefusesBy c s bytes fault → RefusesBy c s bytes other → fault ≡ other
 one_refusal_by Check s bytes fault other h k = one_refusal bytes fault other h k
-one_refusal_by Replay s bytes fault other h k = one_refusal_of_plays s bytes fault other h.1 k.1
+one_refusal_by Replay s bytes fault other h k = one_refusal_of_plays s bytes fault other h k
 one_refusal_by c s bytes fault other h k = absurd h
 
-pub some_meaning_by : (c : Command) (s : Settings) (bytes : List ℕ) → IsTrue (is_built c s.target) → ((p : Program) × (runs : List (List ℕ)) × RecordsBy c s bytes p runs) ⊎ ((fault : InputFault) × RefusesBy c s bytes fault)
+pub some_meaning_by : (c : Command) (s : Settings) (bytes : List ℕ) → IsTrue (is_built c) → ((p : Program) × (runs : List (List ℕ)) × RecordsBy c s bytes p runs) ⊎ ((fault : InputFault) × RefusesBy c s bytes fault)
 some_meaning_by Check s bytes built = some_meaning bytes
-some_meaning_by Replay s bytes built = elim (some_meaning_of_plays s bytes) [
-  | inl h ↦ inl (h.0, h.1, (built, h.2))
-  | inr h ↦ inr (h.0, (built, h.1))
-]
+some_meaning_by Replay s bytes built = some_meaning_of_plays s bytes
 some_meaning_by Generate s bytes built = inl (generated s.gen_settings, [], (refl, refl))
 some_meaning_by c s bytes built = absurd cc

@@ -63,7 +63,7 @@ report_by model chunk p runs count chunks tally lent found text is_clean same ju
 -- ---- what a command answers recorded runs
 
 -- a command that is built and reports writes a report
-report_by_command : (c : Command) (s : Settings) (p : Program) (runs : List (List ℕ)) (text : List ℕ) (is_clean : Bool) → IsTrue (is_built c s.target) → IsTrue (reports c) → IsReport s.model s.chunk p runs text is_clean → OutputsBy c s p runs text is_clean
+report_by_command : (c : Command) (s : Settings) (p : Program) (runs : List (List ℕ)) (text : List ℕ) (is_clean : Bool) → IsTrue (is_built c) → IsTrue (reports c) → IsReport s.model s.chunk p runs text is_clean → OutputsBy c s p runs text is_clean
 report_by_command Check s p runs text is_clean built reported h = h
 report_by_command Replay s p runs text is_clean built reported h = h
 report_by_command Generate s p runs text is_clean built reported h = absurd cc
@@ -91,7 +91,7 @@ module _ (s : Settings) (bytes : List ℕ) where
       counted_here = counted.counted fit_here
 
       -- all other recorded runs
-      pub output_here : (text : List ℕ) (is_clean : Bool) → IsTrue (is_built s.command s.target) → IsTrue (reports s.command) → IsReport s.model s.chunk p runs text is_clean → IsOutputOf s bytes text is_clean
+      pub output_here : (text : List ℕ) (is_clean : Bool) → IsTrue (is_built s.command) → IsTrue (reports s.command) → IsReport s.model s.chunk p runs text is_clean → IsOutputOf s bytes text is_clean
       output_here text is_clean built reported report = record {
         test = p;
         runs = runs;

@@ -118,7 +118,7 @@ module _ (s : Settings) (bytes : List ℕ) where
       elim report.found.works.alone [ inl e ↦ u.chunks e | inr few ↦ omega (arith, several, few) ]
 
   -- a command that is built isn't one that isn't
-  not_unbuilt_command : IsUnbuiltCommand s → IsTrue (is_built s.command s.target) → ⊥
+  not_unbuilt_command : IsUnbuiltCommand s → IsTrue (is_built s.command) → ⊥
   not_unbuilt_command c built = cc
 
   module _ (sink : Change) (status : Status) where

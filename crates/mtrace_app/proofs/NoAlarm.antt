@@ -113,7 +113,7 @@ replay_reports : (c : Command) → c ≡ Replay → IsTrue (reports c)
 replay_reports c e = ap reports e
 
 replayed : (c : Command) (s : Settings) (bytes : List ℕ) (p : Program) (runs : List (List ℕ)) → c ≡ Replay → RecordsBy c s bytes p runs → ArePlayedRuns s bytes p runs
-replayed c s bytes p runs e h = (subst (λ (d : Command). RecordsBy d s bytes p runs) e h).1
+replayed c s bytes p runs e h = subst (λ (d : Command). RecordsBy d s bytes p runs) e h
 
 allowed_runs : (law : IsLaw) (s : Settings) (bytes : List ℕ) (p : Program) (runs : List (List ℕ)) → IsAlarmFree s → ArePlayedRuns s bytes p runs → AllByRecursion (IsAllowed s.model p) runs
 allowed_runs law s bytes p runs free played =

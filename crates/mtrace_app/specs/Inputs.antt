@@ -1,5 +1,5 @@
 -- What the bytes mean that a command takes: a test with recorded runs, or the refusal of their first bad line.
-use Rattle.std.specs.Prelude.{◌≡◌, ℕ, ◌+◌, List, [], map, length, Bool, true, false, Option, Some, None, Err, IsTrue}
+use Rattle.std.specs.Prelude.{◌≡◌, ℕ, ◌+◌, List, [], map, length, Bool, true, false, Option, Some, None, Err}
 use Rattle.test_lang.specs.Program.{Program}
 use Rattle.test_lang.specs.Values.{load_count}
 use Rattle.test_lang.specs.declared.text.fault.TestFault.{TestFault}
@@ -14,8 +14,6 @@ use Rattle.run_text.specs.Runs.{IsLineOfRun, IsBadForRuns}
 use Rattle.run_text.specs.ScheduleReader.{Schedules}
 use Rattle.run_text.specs.ScheduleGrammar.{SpellsSteps, AllStepsFit, StartsWithSchedule, ScheduleMeans}
 use Rattle.test_lang.specs.declared.step.Step.{Step}
-use Rattle.test_lang.specs.declared.target.Target.{Target}
-use Rattle.test_lang.specs.declared.target.Target.TheVariants.{Sc, Tso, Pso, Weak}
 use Rattle.sim_core.specs.Setup.{Setup, IsDonePlayOf, run_after}
 use Rattle.sim_core.specs.declared.schedule.PlayFault.{PlayFault}
 use Rattle.sim_core.specs.declared.schedule.PlayFault.TheVariants.{NotEnabled as NotEnabledStep, Unfinished as UnfinishedPlay}
@@ -123,24 +121,17 @@ pub record ArePlayedRuns (s : Settings) (bytes : List ℕ) (p : Program) (runs :
 abbrev pub AreRefusedPlays : Settings → List ℕ → InputFault → Type 0
 AreRefusedPlays s = IsRefusedRecordedText (λ p. IsLineOfPlay (setup_of s p)) (λ p. IsBadForPlays (setup_of s p)) (λ fault. Some fault)
 
--- the machines that are built
-abbrev pub has_machine : Target → Bool
-has_machine Sc = true
-has_machine Tso = false
-has_machine Pso = false
-has_machine Weak = true
-
 -- ---- by command: one that isn't built has no recorded runs and refuses no bytes; `generate` takes none, and has no runs of the test that its settings draw
 
 abbrev pub RecordsBy : Command → Settings → List ℕ → Program → List (List ℕ) → Type 0
 RecordsBy Check s bytes p runs = AreRecordedRuns bytes p runs
-RecordsBy Replay s bytes p runs = IsTrue (has_machine s.target) × ArePlayedRuns s bytes p runs
+RecordsBy Replay s bytes p runs = ArePlayedRuns s bytes p runs
 RecordsBy Generate s bytes p runs = (p ≡ generated s.gen_settings) × (runs ≡ [])
 RecordsBy command s bytes p runs = ⊥
 
 abbrev pub RefusesBy : Command → Settings → List ℕ → InputFault → Type 0
 RefusesBy Check s bytes fault = AreRefusedRuns bytes fault
-RefusesBy Replay s bytes fault = IsTrue (has_machine s.target) × AreRefusedPlays s bytes fault
+RefusesBy Replay s bytes fault = AreRefusedPlays s bytes fault
 RefusesBy command s bytes fault = ⊥
 
 -- By these settings the bytes mean this test and these recorded runs of it.

@@ -3,7 +3,6 @@ use Rattle.std.specs.Prelude.{◌≡◌, ◌≢◌, ◌⊎◌, ℕ, ◌≤◌, L
 use Rattle.std.specs.Io.KnownBytes.{IsAtEnd}
 use Rattle.tally.specs.declared.outcome.Outcome.{Outcome}
 use Rattle.tally.specs.Tallies.{IsTally}
-use Rattle.test_lang.specs.declared.target.Target.{Target}
 use Rattle.test_lang.specs.Program.{Program}
 use Rattle.test_lang.specs.Values.{load_count}
 use Rattle.test_lang.specs.Text.Grammar.{test_text}
@@ -12,7 +11,7 @@ use Rattle.verdict_report.specs.Lines.{signatures}
 use Rattle.command_line.specs.declared.meaning.Command.{Command}
 use Rattle.command_line.specs.declared.meaning.Command.TheVariants.{Check, Replay, Run, Race, Generate, Demo}
 use Rattle.command_line.specs.declared.meaning.Settings.{Settings}
-use Rattle.mtrace_app.specs.Inputs.{IsRecorded, has_machine, reads}
+use Rattle.mtrace_app.specs.Inputs.{IsRecorded, reads}
 use Rattle.mtrace_app.specs.Limits.{FitLimits}
 use Rattle.mtrace_app.specs.Outside.{Change, IsWithinLimit, WhereTold}
 use Rattle.mtrace_app.specs.Report.{IsReport}
@@ -39,13 +38,13 @@ pub record IsOutputOf (s : Settings) (bytes text : List ℕ) (is_clean : Bool) :
 
 -- ---- what isn't built yet
 
-abbrev pub is_built : Command → Target → Bool
-is_built Check target = true
-is_built Replay target = has_machine target
-is_built Run target = false
-is_built Race target = false
-is_built Generate target = true
-is_built Demo target = false
+abbrev pub is_built : Command → Bool
+is_built Check = true
+is_built Replay = true
+is_built Run = false
+is_built Race = false
+is_built Generate = true
+is_built Demo = false
 
 -- whether a command checks runs, and reports what is found of them
 abbrev pub reports : Command → Bool
@@ -56,9 +55,9 @@ reports Race = true
 reports Generate = false
 reports Demo = true
 
--- a command that isn't: all but `check`, `generate`, and `replay` on a machine that is built
+-- a command that isn't: all but `check`, `replay` and `generate`
 abbrev pub IsUnbuiltCommand : Settings → Type 0
-IsUnbuiltCommand s = IsFalse (is_built s.command s.target)
+IsUnbuiltCommand s = IsFalse (is_built s.command)
 
 -- The bytes mean recorded runs within the limits, and a chunk of their signatures may have more than one. How these are checked together isn't built.
 pub record IsUnbuiltInput (s : Settings) (bytes : List ℕ) : Type 0 where

@@ -19,7 +19,7 @@ use std::alloc::Global;
 
 /// The test of an input, and its recorded runs, as the command has them.
 fn read_recorded(alloc: Global, settings: &Settings, input: &[u8]) -> Result<RunsRead, Failure>
-    requires built { IsTrue (is_built settings.now.command settings.now.target) }
+    requires built { IsTrue (is_built settings.now.command) }
     requires reports { IsTrue (reports settings.now.command) }
     requires fits { IsTrue (fits settings.now.target settings.now.fault) }
     requires few { length input.now ≤ 2 ^ 30 }
@@ -44,7 +44,7 @@ pub(crate) fn output_for_input(
     settings: &Settings,
     input: &[u8],
 ) -> Result<Output, Failure>
-    requires built { IsTrue (is_built settings.now.command settings.now.target) }
+    requires built { IsTrue (is_built settings.now.command) }
     requires reports { IsTrue (reports settings.now.command) }
     requires fits { IsTrue (fits settings.now.target settings.now.fault) }
     requires few { length input.now ≤ 2 ^ 30 }

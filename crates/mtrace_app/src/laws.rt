@@ -19,7 +19,7 @@ pub fn inputs_say_one_thing()
 
 /// An input of a command that is built means recorded runs, or is refused.
 pub fn inputs_say_something()
-    ensures { (s : Settings) (bytes : List ℕ) → IsTrue (is_built s.command s.target) → ((p : Program) × (runs : List (List ℕ)) × IsRecorded s bytes p runs)
+    ensures { (s : Settings) (bytes : List ℕ) → IsTrue (is_built s.command) → ((p : Program) × (runs : List (List ℕ)) × IsRecorded s bytes p runs)
         ⊎ ((fault : InputFault) × IsRefusedInput s bytes fault) }
 {}
 

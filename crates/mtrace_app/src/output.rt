@@ -5,7 +5,7 @@ ghost use Rattle.mtrace_app.specs.declared.refusal.Refusal.{Refusal};
 ghost use Rattle.mtrace_app.specs.declared.failure.Failure.TheVariants.{Memory, Refused};
 ghost use Rattle.mtrace_app.specs.Answers.{HasCause, HasOutput, IsCause, IsDueByWords, texts};
 ghost use Rattle.mtrace_app.specs.Failures.{IfRefused};
-ghost use Rattle.mtrace_app.specs.Outputs.{IsOfInput, IsOutputOf, IsUnbuiltCommand, is_built};
+ghost use Rattle.mtrace_app.specs.Outputs.{IsOfInput, IsOutputOf, IsUnbuiltCommand};
 ghost use Rattle.mtrace_app.specs.Outside.{change, IsPastLimit, IsRestOf, WhereTold};
 
 use crate::counted::Output;
@@ -17,18 +17,6 @@ use crate::refusal::{Refusal, Size};
 use command_line::{Command, Settings, settings};
 use mt_base::Source;
 use std::alloc::Global;
-use test_lang::target::Target;
-
-/// Whether a command is built, and where it plays, the machine.
-fn is_built(command: Command, target: Target) -> bool
-    ensures { result ≡ is_built command target }
-{
-    match command {
-        Command::Check | Command::Generate => true,
-        Command::Replay => matches!(target, Target::Sc | Target::Weak),
-        Command::Run | Command::Race | Command::Demo => false,
-    }
-}
 
 /// The output of a command with its settings. A command that isn't built takes nothing.
 fn output_of<S: Source>(
@@ -49,16 +37,13 @@ fn output_of<S: Source>(
     ensures rest { IsRestOf (S.left source.old) (S.left source.new) }
     ensures later { S.faults source.old ≤ S.faults source.new }
 {
-    if !is_built(settings.command, settings.target) {
-        return Err(Failure::Refused(Refusal::NotBuilt));
-    }
     match settings.command {
         Command::Check | Command::Replay => {
             let input = read_to_end(alloc, source)?;
             output_for_input(alloc, settings, &input)
         }
         Command::Generate => Ok(generated_text(alloc, settings)?),
-        Command::Run | Command::Race | Command::Demo => unreachable!(),
+        Command::Run | Command::Race | Command::Demo => Err(Failure::Refused(Refusal::NotBuilt)),
     }
 }
 

@@ -9,7 +9,7 @@ ghost use Rattle.mtrace_app.specs.declared.refusal.InputFault.{InputFault};
 ghost use Rattle.mtrace_app.specs.declared.refusal.Refusal.{Refusal};
 ghost use Rattle.mtrace_app.specs.Counted.{AreCountedWithin, RefusesBehind};
 ghost use Rattle.mtrace_app.specs.Failures.{IfRefused};
-ghost use Rattle.mtrace_app.specs.Inputs.{has_machine, ArePlayedRuns, AreRefusedPlays, IsBadForPlays, IsLineOfPlay, fault_of_play, setup_of};
+ghost use Rattle.mtrace_app.specs.Inputs.{ArePlayedRuns, AreRefusedPlays, IsBadForPlays, IsLineOfPlay, fault_of_play, setup_of};
 ghost use Rattle.mtrace_app.specs.Played.{PlaysOn};
 
 use crate::failure::Failure;
@@ -25,6 +25,7 @@ use tally::{Counter, Tally};
 use test_lang::step::Step;
 use test_lang::target::Target;
 use test_lang::test::Test;
+use tso_machine::{PsoMachine, TsoMachine};
 use weak_machine::WeakMachine;
 
 /// The refusal of the schedule in this line.
@@ -99,7 +100,6 @@ fn count_plays_on_target(
     text: &[u8],
     line: u32,
 ) -> Result<(u64, Tally), Failure>
-    requires machine { IsTrue (has_machine settings.now.target) }
     requires fits { IsTrue (fits settings.now.target settings.now.fault) }
     requires line { line + length text.now < 2 ^ 32 }
     requires plan { plan.now ≡ test.now }
@@ -118,7 +118,14 @@ fn count_plays_on_target(
             let mut machine = WeakMachine::new(alloc, test, settings.fault)?;
             count_plays(alloc, &mut machine, plan, text, line)
         }
-        Target::Tso | Target::Pso => unreachable!(),
+        Target::Tso => {
+            let mut machine = TsoMachine::new(alloc, test, settings.fault)?;
+            count_plays(alloc, &mut machine, plan, text, line)
+        }
+        Target::Pso => {
+            let mut machine = PsoMachine::new(alloc, test, settings.fault)?;
+            count_plays(alloc, &mut machine, plan, text, line)
+        }
     }
 }
 
@@ -128,7 +135,6 @@ pub(crate) fn read_plays(
     settings: &Settings,
     input: &[u8],
 ) -> Result<RunsRead, Failure>
-    requires machine { IsTrue (has_machine settings.now.target) }
     requires fits { IsTrue (fits settings.now.target settings.now.fault) }
     requires few { length input.now ≤ 2 ^ 30 }
     ensures plan { IfOk result (λ read. read.plan ≡ read.test) }

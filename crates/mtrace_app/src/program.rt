@@ -24,8 +24,7 @@ use std::thread::Threads;
 /// Answers the words, which stand behind the program's name. A status from 2 on is told by a line to `errs`.
 ///
 /// `check` and `replay` read the source to its end: a test, and recorded runs or schedules of it. `generate` takes nothing. The whole output is
-/// made before it is put to the sink, and each put offers all that is left of it. The other commands aren't built, nor are the machines `tso` and
-/// `pso`.
+/// made before it is put to the sink, and each put offers all that is left of it. The other commands aren't built.
 pub fn mtrace<S: Source, K: Sink, E: Sink, G: Gate + Sync>(
     rt: &(impl Threads + Sync),
     alloc: Global,

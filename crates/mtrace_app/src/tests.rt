@@ -725,7 +725,7 @@ fn both_zero(alloc: Global, runs: u32) -> Result<String, AllocError> {
     report(alloc, "sc", runs, lines.as_str(), [0, 1, 0])
 }
 
-const WORDS: [(&str, Status, &str); 10] = [
+const WORDS: [(&str, Status, &str); 9] = [
     ("", Status::Words, "mtrace: words\n"),
     ("check --chunk 0", Status::Words, "mtrace: words\n"),
     ("verify", Status::Words, "mtrace: words\n"),
@@ -733,11 +733,6 @@ const WORDS: [(&str, Status, &str); 10] = [
     ("--help", Status::Words, "mtrace: words\n"),
     ("run", Status::NotBuilt, "mtrace: not built\n"),
     ("demo --model tso", Status::NotBuilt, "mtrace: not built\n"),
-    (
-        "replay --target pso",
-        Status::NotBuilt,
-        "mtrace: not built\n",
-    ),
     (
         "replay --target pso --fault loadload",
         Status::Words,

@@ -22,7 +22,7 @@ struct Played {
     sums: [u32; 3],
 }
 
-const PLAYED: [Played; 10] = [
+const PLAYED: [Played; 20] = [
     // Both threads store before either loads.
     Played {
         words: "replay",
@@ -74,6 +74,74 @@ const PLAYED: [Played; 10] = [
             sig 0000000000000003 count 1 ok\n",
         sums: [3, 0, 0],
     },
+    // Both stores wait in their buffers while both loads read memory. The place 0 may be left out, or not.
+    Played {
+        words: "replay --target tso",
+        model: "sc",
+        test: STORE_BUFFERING,
+        schedules: "schedule 0 1 0 1 0! 1!\ndone\n",
+        count: 1,
+        lines: "sig 0000000000000000.0000000000000000 count 1 cycle 0 1 2 3\n",
+        sums: [0, 1, 0],
+    },
+    Played {
+        words: "replay --target tso --model tso",
+        model: "tso",
+        test: STORE_BUFFERING,
+        schedules: "schedule 0 1 0 1 0! 1!\nschedule 0 1 0 1 1!0 0!\nschedule 1 0 0 1 1! 0!\ndone\n",
+        count: 3,
+        lines: "sig 0000000000000000.0000000000000000 count 3 ok\n",
+        sums: [1, 0, 0],
+    },
+    // Stores that leave the buffer out of order.
+    Played {
+        words: "replay --target tso --fault unordered --model tso",
+        model: "tso",
+        test: MESSAGE_PASSING,
+        schedules: "schedule 0 0 0!1 1 1 0!0\ndone\n",
+        count: 1,
+        lines: "sig 0000000000000001 count 1 cycle 0 1 2 3\n",
+        sums: [0, 1, 0],
+    },
+    // A load that doesn't look into its buffer, and one that does.
+    Played {
+        words: "replay --target tso --fault noforward --model tso",
+        model: "tso",
+        test: OWN_STORE,
+        schedules: "schedule 0 0 0!\ndone\n",
+        count: 1,
+        lines: "outside 1 value 0 count 1\n",
+        sums: [0, 0, 1],
+    },
+    Played {
+        words: "replay --target tso --model tso",
+        model: "tso",
+        test: OWN_STORE,
+        schedules: "schedule 0 0 0!\ndone\n",
+        count: 1,
+        lines: "sig 0000000000000000 count 1 ok\n",
+        sums: [1, 0, 0],
+    },
+    // Of two stores that wait the load gives the last.
+    Played {
+        words: "replay --target tso --model tso",
+        model: "tso",
+        test: OWN_STORES,
+        schedules: "schedule 0 0 0 0! 0!\ndone\n",
+        count: 1,
+        lines: "sig 0000000000000000 count 1 ok\n",
+        sums: [1, 0, 0],
+    },
+    // Fences that don't wait.
+    Played {
+        words: "replay --target tso --fault nofence --model tso",
+        model: "tso",
+        test: FENCED_STORE_BUFFERING,
+        schedules: "schedule 0 0 0 1 1 1 0! 1!\ndone\n",
+        count: 1,
+        lines: "sig 0000000000000000.0000000000000000 count 1 cycle 0 1 2 3 4 5\n",
+        sums: [0, 1, 0],
+    },
     // Two loads of one word that pass each other.
     Played {
         words: "replay --target weak --fault loadload --model weak",
@@ -101,6 +169,35 @@ const PLAYED: [Played; 10] = [
         schedules: "schedule 0:1 1:0 1:1 0:0\ndone\n",
         count: 1,
         lines: "sig 0000000000000001 count 1 cycle 0 1 2 3\n",
+        sums: [0, 1, 0],
+    },
+    // The same on `pso`.
+    Played {
+        words: "replay --target pso --model pso",
+        model: "pso",
+        test: MESSAGE_PASSING,
+        schedules: "schedule 0 0 0!1 1 1 0!0\ndone\n",
+        count: 1,
+        lines: "sig 0000000000000001 count 1 ok\n",
+        sums: [1, 0, 0],
+    },
+    Played {
+        words: "replay --target pso --model tso",
+        model: "tso",
+        test: MESSAGE_PASSING,
+        schedules: "schedule 0 0 0!1 1 1 0!0\ndone\n",
+        count: 1,
+        lines: "sig 0000000000000001 count 1 cycle 0 1 2 3\n",
+        sums: [0, 1, 0],
+    },
+    // A store fence that doesn't wait.
+    Played {
+        words: "replay --target pso --model pso --fault nofence",
+        model: "pso",
+        test: MESSAGE_PASSING_PARTIAL_FENCES,
+        schedules: "schedule 0 0 0 0!1 1 1 1 0!\ndone\n",
+        count: 1,
+        lines: "sig 0000000000000001 count 1 cycle 0 1 2 3 5\n",
         sums: [0, 1, 0],
     },
     Played {
@@ -156,7 +253,7 @@ fn wrong_report(
 
 /// The words, the test, its schedules, and the reason for which they are refused. Store buffering has nine lines, so its first schedule stands in
 /// line 10.
-const NOT_PLAYED: [(&str, &str, &str, &str); 13] = [
+const NOT_PLAYED: [(&str, &str, &str, &str); 18] = [
     (
         "replay",
         STORE_BUFFERING,
@@ -226,16 +323,48 @@ const NOT_PLAYED: [(&str, &str, &str, &str); 13] = [
         "10: NotEnabled place 1",
     ),
     (
+        "replay --target pso",
+        STORE_BUFFERING,
+        "schedule 4294967295\ndone\n",
+        "10: NotEnabled place 0",
+    ),
+    (
         "replay --target weak",
         STORE_BUFFERING,
         "schedule 0:0 2:0\ndone\n",
         "10: NotEnabled place 1",
+    ),
+    // Without the fault.
+    (
+        "replay --target tso",
+        MESSAGE_PASSING,
+        "schedule 0 0 0!1 1 1 0!0\ndone\n",
+        "10: NotEnabled place 2",
+    ),
+    (
+        "replay --target tso",
+        FENCED_STORE_BUFFERING,
+        "schedule 0 0 0 1 1 1 0! 1!\ndone\n",
+        "12: NotEnabled place 1",
     ),
     (
         "replay --target weak",
         STORE_AGAINST_TWO_LOADS,
         "schedule 1:1 0:0 1:0\ndone\n",
         "9: NotEnabled place 0",
+    ),
+    (
+        "replay --target pso",
+        MESSAGE_PASSING_PARTIAL_FENCES,
+        "schedule 0 0 0 0!2 1 1 1 0! 0!\ndone\n",
+        "12: NotEnabled place 3",
+    ),
+    // A store that waits.
+    (
+        "replay --target tso",
+        OWN_STORE,
+        "schedule 0 0\ndone\n",
+        "7: Unfinished",
     ),
 ];
 

@@ -15,8 +15,4 @@ returns-in-Check-clause-err c =
 
 pub returns-in-Replay-clause-err : goal.returns-in-Replay-clause-err
 returns-in-Replay-clause-err c =
-    let s = c.args.settings.now in
-    let machine = subst (λ (d : Command). IsTrue (is_built d s.target)) c.in-Replay.is c.requires.built in
-    if_err_more c.read_plays.result _ _
-    (λ failure h. refused_more failure _ _
-    (λ refusal r. (r.0, r.1, subst (λ (d : Command). RefusesBy d s c.args.input.now r.0) (sym c.in-Replay.is) (machine, r.2))) h) c.read_plays.ensures.err
+    subst (λ (d : Command). IfErr c.read_plays.result (IfRefused (λ refusal. (fault : InputFault) × (refusal ≡ Input fault) × RefusesBy d c.args.settings.now c.args.input.now fault))) (sym c.in-Replay.is) c.read_plays.ensures.err
