@@ -1,11 +1,8 @@
 //! A gate that holds the turn until it is let go.
 
+use crate::flags::is_seen;
 use crate::gate::Gate;
 use std::sync::atomic::{AtomicBool, Ordering};
-use std::thread;
-
-/// How often a flag is looked at before the look-out is given up.
-const LOOKS: u32 = 1_000_000_000;
 
 /// A gate that holds up the first worker that has the turn, until it is released. Flags alone pass between the threads, so
 /// that what a look saw is shown by tests, and no clause tells it.
@@ -43,15 +40,4 @@ impl Gate for HoldGate {
             let _released = is_seen(&self.released);
         }
     }
-}
-
-/// Whether the flag is seen to be raised. Between two looks other threads may go on.
-fn is_seen(flag: &AtomicBool) -> bool {
-    for _ in 0..LOOKS {
-        if flag.load(Ordering::SeqCst) {
-            return true;
-        }
-        thread::yield_now();
-    }
-    false
 }

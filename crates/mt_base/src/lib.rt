@@ -12,8 +12,10 @@
 
 mod calls;
 mod draws;
+mod flags;
 mod gate;
 mod hold_gate;
+mod meet_gate;
 mod mem_sink;
 mod mem_source;
 mod sink;
@@ -22,6 +24,7 @@ mod source;
 pub use draws::Draws;
 pub use gate::{Gate, OpenGate};
 pub use hold_gate::HoldGate;
+pub use meet_gate::MeetGate;
 pub use mem_sink::MemSink;
 pub use mem_source::MemSource;
 pub use sink::{Put, Sink};
@@ -29,5 +32,7 @@ pub use source::{Source, Take};
 
 #[cfg(test)]
 mod hold_gate_tests;
+#[cfg(test)]
+mod meet_gate_tests;
 #[cfg(test)]
 mod tests;
