@@ -5,3 +5,4 @@ pub mod PlaysOn
 pub mod NextOperations
 pub mod Playing
 pub mod NoAlarm
+pub mod DrawnPlays

@@ -1,3 +1,4 @@
 pub mod Setup
 pub mod Schedules
 pub mod Positions
+pub mod Drawn
