@@ -1,0 +1,17 @@
+use Rattle.std.proofs.Common.{ℕ, List, sym, subst, arith}
+use mathlib.Core.Option.{none}
+use Rattle.atomic_table.specs.Table.{Allows, step}
+use Rattle.shared_words.specs.Rule.{Holds}
+use Rattle.shared_words.specs.Steps.{Loaded}
+use Rattle.shared_words.proofs.Moves.{loads}
+use Rattle.shared_words.proofs.steps.load.Goals as goal
+
+pub load-requires : goal.load-requires
+load-requires c =
+    let seat = c.args.seat.now in
+    let words = c.args.words.now in
+    let z = words.table_id in
+    let size = c.requires.table.1 in
+    let low = c.requires.word.0 in
+    let P : List (ℕ × ℕ) → Type 0 = λ m. Allows (Holds words.key) z.slots seat.id (seat.me.0, m) c.args.word (λ n. n) (Loaded (step z.slots c.args.word 0 0 none) (seat.me.0, m)) in
+    (c.requires.table.0, omega (arith, size, low), subst P (sym c.requires.alone.1) (loads (step 0 0 0 0 none) words.key z.slots seat.id seat.me.0 c.requires.alone.0 c.args.word low c.requires.word.1 c.requires.next))
