@@ -74,6 +74,25 @@ pub causes_by_words : (words : List (List ℕ)) (s : Settings) (source : Change)
 causes_by_words words s source settings (Refused refusal) h = cause_by_words words s source settings refusal h
 causes_by_words words s source settings Memory h = tt
 
+-- ---- a command that takes nothing
+
+module _ (s : Settings) (source : Change) (takes_nothing : reads s.command ≡ false) (same : source.now ≡ source.before) where
+  pub of_nothing : (P : List ℕ → Type 0) → P [] → IsOfInput s source P
+  of_nothing P h = subst (λ (b : Bool). TakesBy b source × IfSome (if b then source.before else Some []) P) (sym takes_nothing) (same, h)
+
+  cause_of_nothing : (refusal : Refusal) → RefusesInput s [] refusal → IsCause s source refusal
+  cause_of_nothing Words h = absurd h
+  cause_of_nothing ReadFault h = absurd h
+  cause_of_nothing NotBuilt h = inr (of_nothing (λ b. RefusesInput s b NotBuilt) h)
+  cause_of_nothing (Input fault) h = of_nothing (λ b. RefusesInput s b (Input fault)) h
+  cause_of_nothing (TooLarge Bytes) h = absurd h.3
+  cause_of_nothing (TooLarge (Runs n)) h = of_nothing (λ b. RefusesInput s b (TooLarge (Runs n))) h
+  cause_of_nothing (TooLarge (Values n)) h = of_nothing (λ b. RefusesInput s b (TooLarge (Values n))) h
+
+  pub causes_of_nothing : (failure : Failure) → IfRefused (RefusesInput s []) failure → IfRefused (IsCause s source) failure
+  causes_of_nothing (Refused refusal) h = cause_of_nothing refusal h
+  causes_of_nothing Memory h = tt
+
 -- a test that is generated is the output of a command that takes nothing
 pub generated_output : (s : Settings) (source : Change) (text : List ℕ) (is_clean : Bool) → s.command ≡ Generate → source.now ≡ source.before → text ≡ test_text (generated s.gen_settings) → is_clean ≡ true
     → IsOfInput s source (λ bytes. IsOutputOf s bytes text is_clean)
@@ -87,4 +106,4 @@ generated_output s source text is_clean e same whole clean =
       limits = (omega arith, omega arith);
       output = subst (λ (c : Command). OutputsBy c s p [] text is_clean) (sym e) (whole, clean);
     } in
-    subst (λ (b : Bool). TakesBy b source × IfSome (if b then source.before else Some []) (λ bytes. IsOutputOf s bytes text is_clean)) (sym takes_nothing) (same, output)
+    of_nothing s source takes_nothing same (λ bytes. IsOutputOf s bytes text is_clean) output

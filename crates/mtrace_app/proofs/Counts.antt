@@ -7,12 +7,11 @@ use Rattle.test_lang.specs.declared.op.MemModel.{MemModel}
 use Rattle.test_lang.specs.Program.{Program}
 use Rattle.test_lang.specs.Values.{load_count}
 use Rattle.verdict_report.specs.declared.report.Judged.{Judged}
-use Rattle.verdict_report.specs.Lines.{signatures, report_text_of, has_cycle, has_outside}
-use Rattle.command_line.specs.declared.meaning.Command.{Command}
-use Rattle.command_line.specs.declared.meaning.Command.TheVariants.{Check, Replay, Generate}
+use Rattle.verdict_report.specs.Lines.{signatures, has_cycle, has_outside}
 use Rattle.command_line.specs.declared.meaning.Settings.{Settings}
 use Rattle.mtrace_app.specs.declared.failure.Failure.{Failure}
 use Rattle.mtrace_app.specs.declared.failure.Failure.TheVariants.{Refused, Memory}
+use Rattle.mtrace_app.specs.declared.form.Form.{Form}
 use Rattle.mtrace_app.specs.declared.refusal.InputFault.{InputFault}
 use Rattle.mtrace_app.specs.declared.refusal.Refusal.{Refusal}
 use Rattle.mtrace_app.specs.declared.refusal.Refusal.TheVariants.{Input}
@@ -22,8 +21,9 @@ use Rattle.mtrace_app.specs.Counted.{AreCounted, AreCountedWithin}
 use Rattle.mtrace_app.specs.Failures.{IfRefused}
 use Rattle.mtrace_app.specs.Inputs.{IsRecorded, IsRefusedInput}
 use Rattle.mtrace_app.specs.Limits.{FitLimits, PassLimit}
-use Rattle.mtrace_app.specs.Outputs.{IsOutputOf, OutputsBy, is_built, reports}
-use Rattle.mtrace_app.specs.Report.{AreJudged, IsReport, work_alone}
+use Rattle.mtrace_app.specs.Outputs.{IsOutputOf, form_of, is_built, reports}
+use Rattle.mtrace_app.specs.Report.{AreJudged, IsReportIn, text_in, work_alone}
+use Rattle.mtrace_app.proofs.ByCommand.{output_by_report}
 use Rattle.mtrace_app.proofs.JudgedSoFar.{length-judged}
 
 -- what holds where a test says no
@@ -47,27 +47,20 @@ refused_more Memory P Q more h = tt
 -- ---- the report of counted runs
 
 -- the report that is made of verdicts
-pub report_by : (model : MemModel) (chunk : ℕ) (p : Program) (runs : List (List ℕ)) (count chunks : ℕ) (tally : List (Outcome × ℕ)) (lent found : List Judged) (text : List ℕ) (is_clean : Bool)
-    → lent ≡ found → AreJudged model p (signatures tally) found → chunks ≡ length found → text ≡ report_text_of model count tally lent (work_alone chunks) → is_clean ≡ (not (has_cycle lent) && not (has_outside tally))
-    → (chunk ≡ 1) ⊎ (length (signatures tally) ≤ 1) → AreCounted p runs count tally → IsReport model chunk p runs text is_clean
-report_by model chunk p runs count chunks tally lent found text is_clean same judged number whole clean alone counted = record {
+pub report_by : (form : Form) (model : MemModel) (chunk : ℕ) (p : Program) (runs : List (List ℕ)) (count chunks : ℕ) (tally : List (Outcome × ℕ)) (lent found : List Judged) (text : List ℕ) (is_clean : Bool)
+    → lent ≡ found → AreJudged model p (signatures tally) found → chunks ≡ length found → text ≡ text_in form model count (record { tally = tally; verdicts = lent; work = work_alone chunks }) → is_clean ≡ (not (has_cycle lent) && not (has_outside tally))
+    → (chunk ≡ 1) ⊎ (length (signatures tally) ≤ 1) → AreCounted p runs count tally → IsReportIn form model chunk p runs text is_clean
+report_by form model chunk p runs count chunks tally lent found text is_clean same judged number whole clean alone counted = record {
   findings = record { tally = tally; verdicts = found; work = work_alone (length (signatures tally)) };
   found = record { counts = counted.counts; sum = counted.sum; judged = judged; works = record { alone = alone; numbers = λ i. work_alone (length (signatures tally)) } };
   whole =
-      whole ∙ ap (λ (js : List Judged). report_text_of model count tally js (work_alone chunks)) same
-      ∙ ap (λ (n : ℕ). report_text_of model count tally found (work_alone n)) (number ∙ length-judged model p (signatures tally) found judged)
-      ∙ ap (λ (n : ℕ). report_text_of model n tally found (work_alone (length (signatures tally)))) counted.number;
+      whole ∙ ap (λ (js : List Judged). text_in form model count (record { tally = tally; verdicts = js; work = work_alone chunks })) same
+      ∙ ap (λ (n : ℕ). text_in form model count (record { tally = tally; verdicts = found; work = work_alone n })) (number ∙ length-judged model p (signatures tally) found judged)
+      ∙ ap (λ (n : ℕ). text_in form model n (record { tally = tally; verdicts = found; work = work_alone (length (signatures tally)) })) counted.number;
   clean = clean ∙ ap (λ (js : List Judged). not (has_cycle js) && not (has_outside tally)) same;
 }
 
 -- ---- what a command answers recorded runs
-
--- a command that is built and reports writes a report
-report_by_command : (c : Command) (s : Settings) (p : Program) (runs : List (List ℕ)) (text : List ℕ) (is_clean : Bool) → IsTrue (is_built c) → IsTrue (reports c) → IsReport s.model s.chunk p runs text is_clean → OutputsBy c s p runs text is_clean
-report_by_command Check s p runs text is_clean built reported h = h
-report_by_command Replay s p runs text is_clean built reported h = h
-report_by_command Generate s p runs text is_clean built reported h = absurd cc
-report_by_command c s p runs text is_clean built reported h = absurd cc
 
 module _ (s : Settings) (bytes : List ℕ) where
   -- an input that wasn't read
@@ -91,11 +84,11 @@ module _ (s : Settings) (bytes : List ℕ) where
       counted_here = counted.counted fit_here
 
       -- all other recorded runs
-      pub output_here : (text : List ℕ) (is_clean : Bool) → IsTrue (is_built s.command) → IsTrue (reports s.command) → IsReport s.model s.chunk p runs text is_clean → IsOutputOf s bytes text is_clean
+      pub output_here : (text : List ℕ) (is_clean : Bool) → IsTrue (is_built s.command) → IsTrue (reports s.command) → IsReportIn (form_of s.command) s.model s.chunk p runs text is_clean → IsOutputOf s bytes text is_clean
       output_here text is_clean built reported report = record {
         test = p;
         runs = runs;
         recorded = read;
         limits = fit_runs;
-        output = report_by_command s.command s p runs text is_clean built reported report;
+        output = output_by_report s.command s p runs text is_clean built reported report;
       }

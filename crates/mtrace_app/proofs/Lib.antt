@@ -8,6 +8,10 @@ pub mod Cycles
 pub mod JudgedSoFar
 pub mod Counts
 pub mod OneMeaning
+pub mod TestAlone
+pub mod Ranges
+pub mod GeneratedTests
+pub mod DrawnCounts
 pub mod OneReport
 pub mod OneOutcome
 pub mod OnePlay

@@ -1,6 +1,6 @@
 -- A machine without a fault gives nothing that its own memory model, or a weaker one, forbids.
-use Rattle.std.proofs.Common.{◌≡◌, ◌≢◌, ◌∙◌, ℕ, List, [], ◌∷◌, map, Bool, true, false, refl, sym, ap, subst, not, ◌&&◌}
-use Rattle.std.specs.Prelude.{Option, Some, None, IfSome, IsTrue, ◌||◌}
+use Rattle.std.proofs.Common.{◌≡◌, ◌≢◌, ◌∙◌, ℕ, suc, List, [], ◌∷◌, map, Bool, true, false, refl, sym, ap, subst, not, ◌&&◌}
+use Rattle.std.specs.Prelude.{Option, Some, None, IfSome, IsTrue, ◌||◌, slice_get}
 use Rattle.std.specs.List.{AllByRecursion}
 use Rattle.std.specs.Option.{option_map}
 use Rattle.std.specs.Map.{keys_of}
@@ -19,28 +19,33 @@ use Rattle.test_lang.specs.Signatures.{Means}
 use Rattle.test_lang.specs.Play.Machines.{model_of}
 use Rattle.test_lang.specs.Play.Plays.{IsDonePlay, effects_of, run_of}
 use Rattle.run_text.specs.Items.{AreLinesOf}
+use Rattle.sim_core.specs.Drawn.{AreDrawnRuns}
+use Rattle.test_gen.specs.Generated.{generated}
 use Rattle.signature_plan.specs.Outcomes.{outcome_by}
 use Rattle.verdict_report.specs.declared.report.Judged.{Judged}
 use Rattle.verdict_report.specs.declared.report.Judged.TheVariants.{Ok, Cycle}
 use Rattle.verdict_report.specs.Lines.{has_cycle, has_outside, is_ok, signatures}
 use Rattle.command_line.specs.declared.meaning.Command.{Command}
-use Rattle.command_line.specs.declared.meaning.Command.TheVariants.{Replay}
+use Rattle.command_line.specs.declared.meaning.Command.TheVariants.{Replay, Run, Demo}
 use Rattle.command_line.specs.declared.meaning.Settings.{Settings}
 use Rattle.command_line.specs.Settings.{HasSettings}
 use Rattle.mtrace_app.specs.declared.refusal.Refusal.{Refusal}
 use Rattle.mtrace_app.specs.declared.refusal.Refusal.TheVariants.{Words, NotBuilt, ReadFault, Input, TooLarge}
 use Rattle.mtrace_app.specs.declared.status.Status.{Status}
 use Rattle.mtrace_app.specs.declared.status.Status.TheVariants.{Found}
-use Rattle.mtrace_app.specs.Alarms.{IsAlarmFree}
+use Rattle.mtrace_app.specs.declared.form.Form.{Form}
+use Rattle.mtrace_app.specs.Alarms.{IsAlarmFree, plays}
 use Rattle.mtrace_app.specs.Answers.{IsAnswered, refused, written, cut_off, no_memory}
-use Rattle.mtrace_app.specs.Inputs.{ArePlayedRuns, IsLineOfPlay, RecordsBy}
-use Rattle.mtrace_app.specs.Outputs.{IsOfInput, IsOutputOf, input_of, reports}
+use Rattle.mtrace_app.specs.Inputs.{ArePlayedRuns, AreRunsDrawn, IsLineOfPlay, RecordsBy}
+use Rattle.mtrace_app.specs.Outputs.{IsOfInput, IsOutputOf, form_of, input_of, reports}
 use Rattle.mtrace_app.specs.Outside.{Change}
 use Rattle.mtrace_app.specs.Refusals.{status_of}
 use Rattle.mtrace_app.specs.Status.{output_status}
-use Rattle.mtrace_app.specs.Report.{AreJudged, IsReport, IsVerdict}
+use Rattle.mtrace_app.specs.Report.{AreJudged, IsReportIn, IsVerdict}
 use Rattle.mtrace_app.proofs.ByCommand.{report_in_output}
+use Rattle.mtrace_app.proofs.GeneratedTests.{generated_limits}
 use Rattle.mtrace_app.proofs.OneSettings.{one_settings}
+use Rattle.mtrace_app.proofs.Ranges.{ranges_of_words}
 use Rattle.mtrace_app.proofs.Meanings.{AreOutcomes, means_by, tallied_outcomes}
 
 -- a run that is inside, and has an order
@@ -80,8 +85,8 @@ module _ (model : MemModel) (p : Program) where
       let same : run ≡ judged.0.run = judged.0.one run means in
       ok_or_cycle judged.0.run first (has_cycle more) (subst (IsRunAcyclic model p) same h.0.1.1) judged.0.verdict (none_cycles pairs more h.1 judged.1)
 
-  pub clean_report : (chunk : ℕ) (runs : List (List ℕ)) (text : List ℕ) (is_clean : Bool) → AllByRecursion (IsAllowed model p) runs → IsReport model chunk p runs text is_clean → is_clean ≡ true
-  clean_report chunk runs text is_clean allowed report =
+  pub clean_report : (form : Form) (chunk : ℕ) (runs : List (List ℕ)) (text : List ℕ) (is_clean : Bool) → AllByRecursion (IsAllowed model p) runs → IsReportIn form model chunk p runs text is_clean → is_clean ≡ true
+  clean_report form chunk runs text is_clean allowed report =
       let f = report.findings in
       let outcomes = tallied_outcomes (IsAllowed model p) p runs f.tally allowed report.found.counts in
       let cycles = none_cycles f.tally f.verdicts outcomes report.found.judged in
@@ -89,6 +94,11 @@ module _ (model : MemModel) (p : Program) where
       report.clean ∙ ap (λ (b : Bool). not b && not (has_outside f.tally)) cycles ∙ ap (λ (b : Bool). not false && not b) outside
 
 -- ---- plays without a fault are allowed
+
+-- what each read of a list gives is each of its elements
+all_by_reads : {X : Type 0} (P : X → Type 0) (xs : List X) → ((k : ℕ) (x : X) → slice_get xs k ≡ Some x → P x) → AllByRecursion P xs
+all_by_reads P [] each = tt
+all_by_reads P (x ∷ xs) each = (each 0 x refl, all_by_reads P xs (λ k. each (suc k)))
 
 -- what the law on plays says
 pub record IsLaw : Type 0 where
@@ -107,26 +117,44 @@ module _ (law : IsLaw) (target : Target) (model : MemModel) (p : Program) (limit
   allowed_plays (steps ∷ plays) [] each = absurd each
   allowed_plays (steps ∷ plays) (line ∷ lines) each = (allowed_play steps each.0.is_done_play, allowed_plays plays lines each.1)
 
+  allowed_drawn : (seed count : ℕ) (runs : List (List ℕ)) → AreDrawnRuns (record { target = target; fault = faults.None; test = p }) seed count runs → AllByRecursion (IsAllowed model p) runs
+  allowed_drawn seed count runs drawn = all_by_reads (IsAllowed model p) runs (λ r values e.
+      let play = drawn.each r values e in
+      subst (IsAllowed model p) (sym play.gives) (allowed_play play.steps play.is_drawn_play.is_done_play))
+
 -- ---- so nothing is found
 
-replay_reports : (c : Command) → c ≡ Replay → IsTrue (reports c)
-replay_reports c e = ap reports e
+plays_report : (c : Command) → IsTrue (plays c) → IsTrue (reports c)
+plays_report Replay h = refl
+plays_report Run h = refl
+plays_report Demo h = refl
+plays_report c h = absurd cc
 
-replayed : (c : Command) (s : Settings) (bytes : List ℕ) (p : Program) (runs : List (List ℕ)) → c ≡ Replay → RecordsBy c s bytes p runs → ArePlayedRuns s bytes p runs
-replayed c s bytes p runs e h = subst (λ (d : Command). RecordsBy d s bytes p runs) e h
+module _ (law : IsLaw) (s : Settings) (no_fault : s.fault ≡ faults.None) (weaker : IsTrue (is_no_stronger s.model (model_of s.target))) where
+  allowed_replayed : (bytes : List ℕ) (p : Program) (runs : List (List ℕ)) → ArePlayedRuns s bytes p runs → AllByRecursion (IsAllowed s.model p) runs
+  allowed_replayed bytes p runs played =
+      let each = subst (λ (f : Fault). AreLinesOf (IsLineOfPlay (record { target = s.target; fault = f; test = p })) played.schedules played.text.text.lines) no_fault played.text.text.each in
+      let all = allowed_plays law s.target s.model p played.text.test.limits weaker played.schedules played.text.text.lines each in
+      let same : map (run_of s.target faults.None p) played.schedules ≡ runs =
+      ap (λ (f : Fault). map (run_of s.target f p) played.schedules) (sym no_fault) ∙ sym played.played in
+      subst (AllByRecursion (IsAllowed s.model p)) same all
 
-allowed_runs : (law : IsLaw) (s : Settings) (bytes : List ℕ) (p : Program) (runs : List (List ℕ)) → IsAlarmFree s → ArePlayedRuns s bytes p runs → AllByRecursion (IsAllowed s.model p) runs
-allowed_runs law s bytes p runs free played =
-    let each = subst (λ (f : Fault). AreLinesOf (IsLineOfPlay (record { target = s.target; fault = f; test = p })) played.schedules played.text.text.lines) free.no_fault played.text.text.each in
-    let all = allowed_plays law s.target s.model p played.text.test.limits free.model played.schedules played.text.text.lines each in
-    let same : map (run_of s.target faults.None p) played.schedules ≡ runs =
-    ap (λ (f : Fault). map (run_of s.target f p) played.schedules) (sym free.no_fault) ∙ sym played.played in
-    subst (AllByRecursion (IsAllowed s.model p)) same all
+  allowed_of_seed : (p : Program) (runs : List (List ℕ)) → IsWithinLimits p → AreRunsDrawn s p runs → AllByRecursion (IsAllowed s.model p) runs
+  allowed_of_seed p runs limits drawn =
+      allowed_drawn law s.target s.model p limits weaker s.gen_settings.seed s.runs runs
+      (subst (λ (f : Fault). AreDrawnRuns (record { target = s.target; fault = f; test = p }) s.gen_settings.seed s.runs runs) no_fault drawn)
 
-pub no_alarm : (law : IsLaw) (s : Settings) (bytes text : List ℕ) (is_clean : Bool) → IsAlarmFree s → IsOutputOf s bytes text is_clean → is_clean ≡ true
-no_alarm law s bytes text is_clean free h =
-    clean_report s.model h.test s.chunk h.runs text is_clean (allowed_runs law s bytes h.test h.runs free (replayed s.command s bytes h.test h.runs free.played h.recorded))
-    (report_in_output s.command s h.test h.runs text is_clean (replay_reports s.command free.played) h.output)
+  allowed_by : (c : Command) (bytes : List ℕ) (p : Program) (runs : List (List ℕ)) → IsTrue (plays c) → IsWithinLimits (generated s.gen_settings) → RecordsBy c s bytes p runs → AllByRecursion (IsAllowed s.model p) runs
+  allowed_by Replay bytes p runs played limits h = allowed_replayed bytes p runs h
+  allowed_by Run bytes p runs played limits h = allowed_of_seed p runs h.0.limits h.1
+  allowed_by Demo bytes p runs played limits h = allowed_of_seed p runs (subst IsWithinLimits (sym h.0) limits) h.1
+  allowed_by c bytes p runs played limits h = absurd cc
+
+pub no_alarm : (law : IsLaw) (words : List (List ℕ)) (s : Settings) (bytes text : List ℕ) (is_clean : Bool) → HasSettings words s → IsAlarmFree s → IsOutputOf s bytes text is_clean → is_clean ≡ true
+no_alarm law words s bytes text is_clean settings free h =
+    let limits = generated_limits s.gen_settings (ranges_of_words words s settings) settings.consistent.operations in
+    clean_report s.model h.test (form_of s.command) s.chunk h.runs text is_clean (allowed_by law s free.no_fault free.model s.command bytes h.test h.runs free.played limits h.recorded)
+    (report_in_output s.command s h.test h.runs text is_clean (plays_report s.command free.played) h.output)
 
 -- ---- no call is answered by a finding
 

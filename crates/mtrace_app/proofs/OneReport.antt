@@ -1,6 +1,6 @@
 -- Recorded runs have one report: its text, and whether it is clean.
 use Rattle.std.proofs.Common.{◌≡◌, ◌∙◌, ℕ, List, [], ◌∷◌, ◌++◌, Bool, cond, map, length, refl, sym, ap, subst, arith}
-use Rattle.std.specs.Prelude.{count_by, codes, not, ◌&&◌}
+use Rattle.std.specs.Prelude.{count_by, codes, filter, not, ◌&&◌}
 use Rattle.std.specs.Fmt.{decimal}
 use Rattle.std.specs.List.{flat_map, sum_by, zip}
 use Rattle.std.proofs.lemmas.List.Sums.{sum_by-cons}
@@ -16,11 +16,13 @@ use Rattle.signature_plan.specs.Outcomes.{outcome_of}
 use Rattle.verdict_report.specs.declared.report.Judged.{Judged}
 use Rattle.verdict_report.specs.declared.report.Judged.TheVariants.{Ok, Cycle}
 use Rattle.verdict_report.specs.declared.report.Work.{Work}
-use Rattle.verdict_report.specs.Lines.{head_lines, named, signatures, outsides, outside_line, signature_line, cycle_of, verdict_text, is_ok, is_cycle, sum_line, work_line, report_text_of, has_cycle, has_outside}
+use Rattle.verdict_report.specs.Lines.{head_lines, named, signatures, outsides, outside_line, signature_line, cycle_of, verdict_text, is_ok, is_cycle, sum_line, work_line, report_lines_of, tells_outcome, has_cycle, has_outside}
 use Rattle.verdict_report.specs.Numbers.{signature_text}
-use Rattle.mtrace_app.specs.Report.{AreJudged, IsJudged, IsReport, IsVerdict, work_alone}
+use Rattle.mtrace_app.specs.declared.form.Form.{Form}
+use Rattle.mtrace_app.specs.declared.form.Form.TheVariants.{Whole, Summary}
+use Rattle.mtrace_app.specs.Report.{AreJudged, IsJudged, IsReportIn, IsVerdict, text_in, work_alone}
 use Rattle.command_line.specs.declared.meaning.Command.{Command}
-use Rattle.command_line.specs.declared.meaning.Command.TheVariants.{Check, Replay, Generate}
+use Rattle.command_line.specs.declared.meaning.Command.TheVariants.{Check, Replay, Run, Generate, Demo}
 use Rattle.command_line.specs.declared.meaning.Settings.{Settings}
 use Rattle.mtrace_app.specs.Outputs.{IsOutputOf, OutputsBy}
 use Rattle.mtrace_app.proofs.ByCommand.{one_meaning_by}
@@ -92,38 +94,45 @@ same_any (a ∷ found) [] h = absurd h
 same_any (a ∷ found) (b ∷ others) h = let here = ap not h.0.kind in let more = same_any found others h.1 in cc
 
 module _ (model : MemModel) (runs : ℕ) (tally : List (Outcome × ℕ)) (work : Work) where
-  text_with : List (List ℕ) → ℕ → ℕ → List ℕ
-  text_with lines ok cycle =
-      closed (head_lines model runs ++ (lines ++ map outside_line (outsides tally)) ++ sum_line (length (signatures tally)) ok cycle (length (outsides tally)) ∷ work_line work ∷ [])
+  lines_with : List (List ℕ) → ℕ → ℕ → List (List ℕ)
+  lines_with lines ok cycle =
+      head_lines model runs ++ (lines ++ map outside_line (outsides tally)) ++ sum_line (length (signatures tally)) ok cycle (length (outsides tally)) ∷ work_line work ∷ []
 
-  same_text : (found others : List Judged) → AllLookSame found others → report_text_of model runs tally found work ≡ report_text_of model runs tally others work
-  unfolding text_with
-  same_text found others h =
+  same_report_lines : (found others : List Judged) → AllLookSame found others → report_lines_of model runs tally found work ≡ report_lines_of model runs tally others work
+  unfolding lines_with
+  same_report_lines found others h =
       let lines = λ (js : List Judged). map signature_line (zip (signatures tally) js) in
-      ap (λ (ls : List (List ℕ)). text_with ls (count_by is_ok found) (count_by is_cycle found)) (same_lines (signatures tally) found others h)
-      ∙ ap (λ (n : ℕ). text_with (lines others) n (count_by is_cycle found)) (same_oks found others h)
-      ∙ ap (λ (n : ℕ). text_with (lines others) (count_by is_ok others) n) (same_cycles found others h)
+      ap (λ (ls : List (List ℕ)). lines_with ls (count_by is_ok found) (count_by is_cycle found)) (same_lines (signatures tally) found others h)
+      ∙ ap (λ (n : ℕ). lines_with (lines others) n (count_by is_cycle found)) (same_oks found others h)
+      ∙ ap (λ (n : ℕ). lines_with (lines others) (count_by is_ok others) n) (same_cycles found others h)
 
-same_report : (model : MemModel) (chunk : ℕ) (p : Program) (runs : List (List ℕ)) (text other : List ℕ) (is_clean also : Bool) → IsReport model chunk p runs text is_clean → IsReport model chunk p runs other also
+  same_text : (form : Form) (found others : List Judged) → AllLookSame found others
+      → text_in form model runs (record { tally = tally; verdicts = found; work = work }) ≡ text_in form model runs (record { tally = tally; verdicts = others; work = work })
+  same_text Whole found others h = ap closed (same_report_lines found others h)
+  same_text Summary found others h = ap (λ (ls : List (List ℕ)). closed (filter (λ line. not (tells_outcome line)) ls)) (same_report_lines found others h)
+
+same_report : (form : Form) (model : MemModel) (chunk : ℕ) (p : Program) (runs : List (List ℕ)) (text other : List ℕ) (is_clean also : Bool) → IsReportIn form model chunk p runs text is_clean → IsReportIn form model chunk p runs other also
     → (text ≡ other) × (is_clean ≡ also)
-same_report model chunk p runs text other is_clean also h k =
+same_report form model chunk p runs text other is_clean also h k =
     let f = h.findings in
     let g = k.findings in
     let same : f.tally ≡ g.tally = one_tally (map (outcome_of p) runs) f.tally g.tally h.found.counts k.found.counts in
     let judged : AreJudged model p (signatures g.tally) f.verdicts = subst (λ (t : List (Outcome × ℕ)). AreJudged model p (signatures t) f.verdicts) same h.found.judged in
     let look : AllLookSame f.verdicts g.verdicts = all_judged model p (signatures g.tally) f.verdicts g.verdicts judged k.found.judged in
     let work : f.work ≡ g.work = h.found.works.numbers ∙ ap (λ (t : List (Outcome × ℕ)). work_alone (length (signatures t))) same ∙ sym k.found.works.numbers in (
-      h.whole ∙ ap (λ (t : List (Outcome × ℕ)). report_text_of model (length runs) t f.verdicts f.work) same
-          ∙ ap (λ (w : Work). report_text_of model (length runs) g.tally f.verdicts w) work
-          ∙ same_text model (length runs) g.tally g.work f.verdicts g.verdicts look ∙ sym k.whole,
+      h.whole ∙ ap (λ (t : List (Outcome × ℕ)). text_in form model (length runs) (record { tally = t; verdicts = f.verdicts; work = f.work })) same
+          ∙ ap (λ (w : Work). text_in form model (length runs) (record { tally = g.tally; verdicts = f.verdicts; work = w })) work
+          ∙ same_text model (length runs) g.tally g.work form f.verdicts g.verdicts look ∙ sym k.whole,
       h.clean ∙ ap (λ (t : List (Outcome × ℕ)). not (has_cycle f.verdicts) && not (has_outside t)) same
           ∙ ap (λ (b : Bool). not b && not (has_outside g.tally)) (same_any f.verdicts g.verdicts look) ∙ sym k.clean,
     )
 
 one_output_by : (c : Command) (s : Settings) (p : Program) (runs : List (List ℕ)) (text other : List ℕ) (is_clean also : Bool) → OutputsBy c s p runs text is_clean → OutputsBy c s p runs other also → (text ≡ other) × (is_clean ≡ also)
-one_output_by Check s p runs text other is_clean also h k = same_report s.model s.chunk p runs text other is_clean also h k
-one_output_by Replay s p runs text other is_clean also h k = same_report s.model s.chunk p runs text other is_clean also h k
+one_output_by Check s p runs text other is_clean also h k = same_report Whole s.model s.chunk p runs text other is_clean also h k
+one_output_by Replay s p runs text other is_clean also h k = same_report Whole s.model s.chunk p runs text other is_clean also h k
+one_output_by Run s p runs text other is_clean also h k = same_report Whole s.model s.chunk p runs text other is_clean also h k
 one_output_by Generate s p runs text other is_clean also h k = (h.0 ∙ sym k.0, h.1 ∙ sym k.1)
+one_output_by Demo s p runs text other is_clean also h k = same_report Summary s.model s.chunk p runs text other is_clean also h k
 one_output_by c s p runs text other is_clean also h k = absurd h
 
 pub one_output : (s : Settings) (bytes text other : List ℕ) (is_clean also : Bool) → IsOutputOf s bytes text is_clean → IsOutputOf s bytes other also → (text ≡ other) × (is_clean ≡ also)

@@ -1,5 +1,5 @@
 -- What the bytes mean that a command takes: a test with recorded runs, or the refusal of their first bad line.
-use Rattle.std.specs.Prelude.{◌≡◌, ℕ, ◌+◌, List, [], map, length, Bool, true, false, Option, Some, None, Err}
+use Rattle.std.specs.Prelude.{◌≡◌, ◌≢◌, ℕ, ◌+◌, List, [], map, length, Bool, true, false, Option, Some, None, Err}
 use Rattle.test_lang.specs.Program.{Program}
 use Rattle.test_lang.specs.Values.{load_count}
 use Rattle.test_lang.specs.declared.text.fault.TestFault.{TestFault}
@@ -15,6 +15,7 @@ use Rattle.run_text.specs.ScheduleReader.{Schedules}
 use Rattle.run_text.specs.ScheduleGrammar.{SpellsSteps, AllStepsFit, StartsWithSchedule, ScheduleMeans}
 use Rattle.test_lang.specs.declared.step.Step.{Step}
 use Rattle.sim_core.specs.Setup.{Setup, IsDonePlayOf, run_after}
+use Rattle.sim_core.specs.Drawn.{AreDrawnRuns}
 use Rattle.sim_core.specs.declared.schedule.PlayFault.{PlayFault}
 use Rattle.sim_core.specs.declared.schedule.PlayFault.TheVariants.{NotEnabled as NotEnabledStep, Unfinished as UnfinishedPlay}
 use Rattle.sim_core.specs.Schedules.{ComesOut}
@@ -121,17 +122,36 @@ pub record ArePlayedRuns (s : Settings) (bytes : List ℕ) (p : Program) (runs :
 abbrev pub AreRefusedPlays : Settings → List ℕ → InputFault → Type 0
 AreRefusedPlays s = IsRefusedRecordedText (λ p. IsLineOfPlay (setup_of s p)) (λ p. IsBadForPlays (setup_of s p)) (λ fault. Some fault)
 
--- ---- by command: one that isn't built has no recorded runs and refuses no bytes; `generate` takes none, and has no runs of the test that its settings draw
+-- ---- a test alone, whose runs are drawn
+
+-- the bytes are the text of a test, and nothing stands behind it
+abbrev pub IsTestAlone : List ℕ → Program → Type 0
+IsTestAlone bytes p = StartsWithTest bytes p []
+
+-- No test stands in front, or something stands behind one. Lines are numbered through the whole input.
+pub data IsRefusedTestAlone (bytes : List ℕ) (fault : InputFault) : Type 0 where
+  no_test : (refusal : TestFault) → IsRefusedTest bytes refusal → fault_in_test refusal ≡ Some fault → IsRefusedTestAlone bytes fault
+  not_alone : (p : Program) (rest : List ℕ) → StartsWithTest bytes p rest → rest ≢ [] → fault ≡ record { line = length (test_lines p) + 1; reason = AfterDone } → IsRefusedTestAlone bytes fault
+
+-- these are the runs that the settings draw of a test
+abbrev pub AreRunsDrawn : Settings → Program → List (List ℕ) → Type 0
+AreRunsDrawn s p = AreDrawnRuns (setup_of s p) s.gen_settings.seed s.runs
+
+-- ---- by command: one that isn't built has no recorded runs and refuses no bytes
+-- `generate` and `demo` take none, and are of the test that their settings draw. Only `demo` has runs of it.
 
 abbrev pub RecordsBy : Command → Settings → List ℕ → Program → List (List ℕ) → Type 0
 RecordsBy Check s bytes p runs = AreRecordedRuns bytes p runs
 RecordsBy Replay s bytes p runs = ArePlayedRuns s bytes p runs
+RecordsBy Run s bytes p runs = IsTestAlone bytes p × AreRunsDrawn s p runs
 RecordsBy Generate s bytes p runs = (p ≡ generated s.gen_settings) × (runs ≡ [])
+RecordsBy Demo s bytes p runs = (p ≡ generated s.gen_settings) × AreRunsDrawn s p runs
 RecordsBy command s bytes p runs = ⊥
 
 abbrev pub RefusesBy : Command → Settings → List ℕ → InputFault → Type 0
 RefusesBy Check s bytes fault = AreRefusedRuns bytes fault
 RefusesBy Replay s bytes fault = AreRefusedPlays s bytes fault
+RefusesBy Run s bytes fault = IsRefusedTestAlone bytes fault
 RefusesBy command s bytes fault = ⊥
 
 -- By these settings the bytes mean this test and these recorded runs of it.

@@ -11,17 +11,21 @@ use Rattle.verdict_report.specs.Lines.{signatures}
 use Rattle.command_line.specs.declared.meaning.Command.{Command}
 use Rattle.command_line.specs.declared.meaning.Command.TheVariants.{Check, Replay, Run, Race, Generate, Demo}
 use Rattle.command_line.specs.declared.meaning.Settings.{Settings}
+use Rattle.mtrace_app.specs.declared.form.Form.{Form}
+use Rattle.mtrace_app.specs.declared.form.Form.TheVariants.{Whole, Summary}
 use Rattle.mtrace_app.specs.Inputs.{IsRecorded, reads}
 use Rattle.mtrace_app.specs.Limits.{FitLimits}
 use Rattle.mtrace_app.specs.Outside.{Change, IsWithinLimit, WhereTold}
-use Rattle.mtrace_app.specs.Report.{IsReport}
+use Rattle.mtrace_app.specs.Report.{IsReport, IsSummary}
 
 -- ---- by command: one that isn't built has no output
 
 abbrev pub OutputsBy : Command → Settings → Program → List (List ℕ) → List ℕ → Bool → Type 0
 OutputsBy Check s p runs text is_clean = IsReport s.model s.chunk p runs text is_clean
 OutputsBy Replay s p runs text is_clean = IsReport s.model s.chunk p runs text is_clean
+OutputsBy Run s p runs text is_clean = IsReport s.model s.chunk p runs text is_clean
 OutputsBy Generate s p runs text is_clean = (text ≡ test_text p) × (is_clean ≡ true)
+OutputsBy Demo s p runs text is_clean = IsSummary s.model s.chunk p runs text is_clean
 OutputsBy command s p runs text is_clean = ⊥
 
 -- By these settings this text is the output for these recorded runs, and it is clean or isn't.
@@ -41,10 +45,10 @@ pub record IsOutputOf (s : Settings) (bytes text : List ℕ) (is_clean : Bool) :
 abbrev pub is_built : Command → Bool
 is_built Check = true
 is_built Replay = true
-is_built Run = false
+is_built Run = true
 is_built Race = false
 is_built Generate = true
-is_built Demo = false
+is_built Demo = true
 
 -- whether a command checks runs, and reports what is found of them
 abbrev pub reports : Command → Bool
@@ -55,7 +59,16 @@ reports Race = true
 reports Generate = false
 reports Demo = true
 
--- a command that isn't: all but `check`, `replay` and `generate`
+-- in which form a command tells what is found
+abbrev pub form_of : Command → Form
+form_of Check = Whole
+form_of Replay = Whole
+form_of Run = Whole
+form_of Race = Whole
+form_of Generate = Whole
+form_of Demo = Summary
+
+-- a command that isn't: `race`
 abbrev pub IsUnbuiltCommand : Settings → Type 0
 IsUnbuiltCommand s = IsFalse (is_built s.command)
 

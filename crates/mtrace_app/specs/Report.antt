@@ -10,7 +10,9 @@ use Rattle.signature_plan.specs.Outcomes.{outcome_of}
 use Rattle.verdict_report.specs.declared.report.Judged.{Judged}
 use Rattle.verdict_report.specs.declared.report.Judged.TheVariants.{Ok, Cycle}
 use Rattle.verdict_report.specs.declared.report.Work.{Work}
-use Rattle.verdict_report.specs.Lines.{signatures, report_text_of, has_cycle, has_outside}
+use Rattle.verdict_report.specs.Lines.{signatures, report_text_of, summary_text_of, has_cycle, has_outside}
+use Rattle.mtrace_app.specs.declared.form.Form.{Form}
+use Rattle.mtrace_app.specs.declared.form.Form.TheVariants.{Whole, Summary}
 
 -- The verdict on a run, by its own edges alone: ok where it has an order, and otherwise its canonical cycle.
 abbrev pub IsVerdict : MemModel → Program → List ℕ → Judged → Type 0
@@ -58,9 +60,22 @@ pub record AreFindings (model : MemModel) (chunk : ℕ) (p : Program) (runs : Li
 abbrev pub are_clean : Findings → Bool
 are_clean f = not (has_cycle f.verdicts) && not (has_outside f.tally)
 
--- The text tells what is found of these runs, and whether it is clean.
-pub record IsReport (model : MemModel) (chunk : ℕ) (p : Program) (runs : List (List ℕ)) (text : List ℕ) (is_clean : Bool) : Type 0 where
+-- the text of findings of so many runs: all lines of their report, or its summary
+abbrev pub text_in : Form → MemModel → ℕ → Findings → List ℕ
+text_in Whole model runs f = report_text_of model runs f.tally f.verdicts f.work
+text_in Summary model runs f = summary_text_of model runs f.tally f.verdicts f.work
+
+-- The text tells in this form what is found of these runs, and whether it is clean.
+pub record IsReportIn (form : Form) (model : MemModel) (chunk : ℕ) (p : Program) (runs : List (List ℕ)) (text : List ℕ) (is_clean : Bool) : Type 0 where
   pub findings : Findings
   pub found : AreFindings model chunk p runs findings
-  pub whole : text ≡ report_text_of model (length runs) findings.tally findings.verdicts findings.work
+  pub whole : text ≡ text_in form model (length runs) findings
   pub clean : is_clean ≡ are_clean findings
+
+-- the report of these runs
+abbrev pub IsReport : MemModel → ℕ → Program → List (List ℕ) → List ℕ → Bool → Type 0
+IsReport = IsReportIn Whole
+
+-- its summary, which is clean where the report is
+abbrev pub IsSummary : MemModel → ℕ → Program → List (List ℕ) → List ℕ → Bool → Type 0
+IsSummary = IsReportIn Summary

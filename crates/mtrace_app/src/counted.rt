@@ -1,13 +1,14 @@
 //! From counted runs to their report: nothing here asks where the runs come from.
 ghost use Rattle.std.specs.Prelude.{◌≡◌, ◌≢◌, ◌⊎◌, ◌≤◌, ℕ, List, length, not, ◌&&◌, IfOk, IfErr};
 ghost use Rattle.std.specs.Bool.{OnFalse, OnTrue};
-ghost use Rattle.verdict_report.specs.Lines.{signatures, report_text_of, has_cycle, has_outside};
+ghost use Rattle.verdict_report.specs.Lines.{signatures, has_cycle, has_outside};
 ghost use Rattle.mtrace_app.specs.Counted.{AreCounted, AreMeant};
 ghost use Rattle.mtrace_app.specs.Failures.{IfRefused};
 ghost use Rattle.mtrace_app.specs.Judging.{IsJudge};
-ghost use Rattle.mtrace_app.specs.Report.{AreJudged, IsReport, work_alone};
+ghost use Rattle.mtrace_app.specs.Report.{AreJudged, IsReportIn, text_in, work_alone};
 
 use crate::failure::Failure;
+use crate::form::Form;
 use crate::judging::Judge;
 use crate::refusal::Refusal;
 use signature_plan::Plan;
@@ -15,7 +16,7 @@ use std::alloc::{AllocError, Global};
 use tally::{Outcome, Tally};
 use test_lang::op::MemModel;
 use test_lang::test::Test;
-use verdict_report::{Judged, Report, Work, text};
+use verdict_report::{Judged, Report, Work, summary, text};
 
 /// Runs of a test that were counted: how many they are, and how often each outcome occurred.
 #[derive(Drop)]
@@ -92,17 +93,18 @@ fn shares_chunks(chunk: u32, signatures: usize) -> bool
     chunk != 1 && signatures > 1
 }
 
-/// The report of counted runs, under a model and for chunks of this size. Each signature is a chunk of its own: chunks of more aren't built.
+/// The report of counted runs, under a model and for chunks of this size, in a form. Each signature is a chunk of its own: chunks of more aren't built.
 pub(crate) fn report_of(
     alloc: Global,
     model: MemModel,
     chunk: u32,
+    form: Form,
     counted: &Counted<'_>,
 ) -> Result<Output, Failure>
     requires plan { counted.now.plan.now ≡ counted.now.test.now }
     requires meant { AreMeant counted.now.test.now (signatures counted.now.tally.now) }
     ensures report { IfOk result (λ output. (runs : List (List ℕ)) → AreCounted counted.now.test.now runs counted.now.runs counted.now.tally.now
-        → IsReport model chunk counted.now.test.now runs output.text.items output.is_clean) }
+        → IsReportIn form model chunk counted.now.test.now runs output.text.items output.is_clean) }
     ensures unbuilt { IfErr result (IfRefused (λ refusal. (refusal ≡ Refusal.NotBuilt) × (chunk ≢ 1) × (2 ≤ length (signatures counted.now.tally.now)))) }
 {
     let signatures = count_signatures(counted.tally);
@@ -110,19 +112,20 @@ pub(crate) fn report_of(
         return Err(Failure::Refused(Refusal::NotBuilt));
     }
     let found = verdicts_on(alloc, model, counted, signatures)?;
-    Ok(write_report(alloc, model, counted, &found)?)
+    Ok(write_report(alloc, model, form, counted, &found)?)
 }
 
-/// The text of the report, by the verdicts on the signatures.
+/// The text of the report in a form, by the verdicts on the signatures.
 fn write_report(
     alloc: Global,
     model: MemModel,
+    form: Form,
     counted: &Counted<'_>,
     found: &[Judged],
 ) -> Result<Output, AllocError>
     requires { length found.now ≡ length (signatures counted.now.tally.now) }
-    ensures text { IfOk result (λ output. output.text.items
-        ≡ report_text_of model counted.now.runs counted.now.tally.now found.now (work_alone (length found.now))) }
+    ensures text { IfOk result (λ output. output.text.items ≡ text_in form model counted.now.runs
+        (record { tally = counted.now.tally.now; verdicts = found.now; work = work_alone (length found.now) })) }
     ensures clean { IfOk result (λ output. output.is_clean
         ≡ (not (has_cycle found.now) && not (has_outside counted.now.tally.now))) }
 {
@@ -140,8 +143,12 @@ fn write_report(
             nodes: 0,
         },
     };
+    let text = match form {
+        Form::Whole => text(alloc, &report)?,
+        Form::Summary => summary(alloc, &report)?,
+    };
     Ok(Output {
-        text: text(alloc, &report)?,
+        text,
         is_clean: report.is_clean(),
     })
 }

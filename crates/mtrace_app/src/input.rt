@@ -1,6 +1,6 @@
 //! The output for the bytes that a command takes.
 ghost use Rattle.std.specs.Prelude.{◌≡◌, ℕ, ◌^◌, ◌<◌, ◌≤◌, List, length, IsTrue, IfOk, IfErr};
-ghost use Rattle.test_lang.specs.Targets.{fits};
+ghost use Rattle.command_line.specs.Settings.{AreConsistent, IsWithinRanges};
 ghost use Rattle.mtrace_app.specs.declared.refusal.InputFault.{InputFault};
 ghost use Rattle.mtrace_app.specs.Answers.{RefusesInput};
 ghost use Rattle.mtrace_app.specs.Counted.{AreCountedWithin};
@@ -9,7 +9,9 @@ ghost use Rattle.mtrace_app.specs.Inputs.{IsRecorded, IsRefusedInput};
 ghost use Rattle.mtrace_app.specs.Outputs.{IsOutputOf, is_built, reports};
 
 use crate::counted::{Counted, Output, report_of};
+use crate::drawn::{draw_runs_of_generated, draw_runs_of_input};
 use crate::failure::Failure;
+use crate::form::Form;
 use crate::limits::check_limits;
 use crate::played::read_plays;
 use crate::recorded::{RunsRead, read_runs};
@@ -17,11 +19,12 @@ use crate::refusal::Refusal;
 use command_line::{Command, Settings};
 use std::alloc::Global;
 
-/// The test of an input, and its recorded runs, as the command has them.
+/// The test of an input, and its recorded runs, as the command has them. `demo` generates both.
 fn read_recorded(alloc: Global, settings: &Settings, input: &[u8]) -> Result<RunsRead, Failure>
     requires built { IsTrue (is_built settings.now.command) }
     requires reports { IsTrue (reports settings.now.command) }
-    requires fits { IsTrue (fits settings.now.target settings.now.fault) }
+    requires ranges { IsWithinRanges settings.now }
+    requires consistent { AreConsistent settings.now }
     requires few { length input.now ≤ 2 ^ 30 }
     ensures plan { IfOk result (λ read. read.plan ≡ read.test) }
     ensures few { IfOk result (λ read. read.runs < 2 ^ 32) }
@@ -34,11 +37,13 @@ fn read_recorded(alloc: Global, settings: &Settings, input: &[u8]) -> Result<Run
     match settings.command {
         Command::Check => read_runs(alloc, input),
         Command::Replay => read_plays(alloc, settings, input),
+        Command::Run => draw_runs_of_input(alloc, settings, input),
+        Command::Demo => Ok(draw_runs_of_generated(alloc, settings)?),
         _ => unreachable!(),
     }
 }
 
-/// The report of the recorded runs of an input.
+/// The report of the recorded runs of an input, in the form of the command.
 pub(crate) fn output_for_input(
     alloc: Global,
     settings: &Settings,
@@ -46,7 +51,8 @@ pub(crate) fn output_for_input(
 ) -> Result<Output, Failure>
     requires built { IsTrue (is_built settings.now.command) }
     requires reports { IsTrue (reports settings.now.command) }
-    requires fits { IsTrue (fits settings.now.target settings.now.fault) }
+    requires ranges { IsWithinRanges settings.now }
+    requires consistent { AreConsistent settings.now }
     requires few { length input.now ≤ 2 ^ 30 }
     ensures output { IfOk result (λ output. IsOutputOf settings.now input.now output.text.items output.is_clean) }
     ensures refused { IfErr result (IfRefused (RefusesInput settings.now input.now)) }
@@ -59,6 +65,7 @@ pub(crate) fn output_for_input(
         alloc,
         settings.model,
         settings.chunk,
+        Form::of(settings.command),
         &Counted {
             test: &read.test,
             plan: &read.plan,

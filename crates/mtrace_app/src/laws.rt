@@ -1,6 +1,7 @@
 //! What an input means to a command, over the definitions alone.
 ghost use Rattle.std.specs.Prelude.{◌≡◌, ◌⊎◌, ℕ, List, Bool, true, IsTrue};
 ghost use Rattle.command_line.specs.declared.meaning.Settings.{Settings};
+ghost use Rattle.command_line.specs.Settings.{HasSettings};
 ghost use Rattle.test_lang.specs.Program.{Program};
 ghost use Rattle.mtrace_app.specs.declared.refusal.InputFault.{InputFault};
 ghost use Rattle.mtrace_app.specs.Alarms.{IsAlarmFree};
@@ -36,9 +37,10 @@ pub fn inputs_have_one_report()
         → (text ≡ other) × (is_clean ≡ also) }
 {}
 
-/// A machine without a fault gives nothing that its own memory model, or a weaker one, forbids: the output is clean.
+/// A machine without a fault gives nothing that its own memory model, or a weaker one, forbids: by settings that words have, the output is clean.
 pub fn machines_raise_no_alarm()
-    ensures { (s : Settings) (bytes text : List ℕ) (is_clean : Bool) → IsAlarmFree s → IsOutputOf s bytes text is_clean → is_clean ≡ true }
+    ensures { (words : List (List ℕ)) (s : Settings) (bytes text : List ℕ) (is_clean : Bool) → HasSettings words s → IsAlarmFree s
+        → IsOutputOf s bytes text is_clean → is_clean ≡ true }
 {
     done_plays_raise_no_alarm();
 }

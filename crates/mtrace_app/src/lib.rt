@@ -10,7 +10,9 @@
 
 mod answer;
 mod counted;
+mod drawn;
 mod failure;
+mod form;
 mod generated;
 mod input;
 mod judging;

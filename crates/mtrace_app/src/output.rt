@@ -38,12 +38,13 @@ fn output_of<S: Source>(
     ensures later { S.faults source.old ≤ S.faults source.new }
 {
     match settings.command {
-        Command::Check | Command::Replay => {
+        Command::Check | Command::Replay | Command::Run => {
             let input = read_to_end(alloc, source)?;
             output_for_input(alloc, settings, &input)
         }
         Command::Generate => Ok(generated_text(alloc, settings)?),
-        Command::Run | Command::Race | Command::Demo => Err(Failure::Refused(Refusal::NotBuilt)),
+        Command::Demo => output_for_input(alloc, settings, &[]),
+        Command::Race => Err(Failure::Refused(Refusal::NotBuilt)),
     }
 }
 

@@ -7,6 +7,7 @@ use std::alloc::{AllocError, Global};
 use std::test::Fail;
 use std::thread::Threads;
 
+mod drawn;
 mod generated;
 mod plays;
 
@@ -129,6 +130,16 @@ fn status_of<S: Source>(
 
 fn make(rt: &(impl Threads + Sync), alloc: Global, call: &Call<'_>) -> Result<Made, AllocError> {
     let words = words_of(alloc, call.words)?;
+    make_with(rt, alloc, &words, call)
+}
+
+/// The same with these words.
+fn make_with(
+    rt: &(impl Threads + Sync),
+    alloc: Global,
+    words: &[String],
+    call: &Call<'_>,
+) -> Result<Made, AllocError> {
     let bytes = call.input.as_bytes().to_vec(alloc)?;
     let mut source = MemSource::new(
         bytes,
@@ -137,7 +148,7 @@ fn make(rt: &(impl Threads + Sync), alloc: Global, call: &Call<'_>) -> Result<Ma
     );
     let mut sink = sink_of(alloc, &call.puts)?;
     let mut errs = sink_of(alloc, &call.tells)?;
-    let status = status_of(rt, alloc, &words, &mut source, &mut sink, &mut errs);
+    let status = status_of(rt, alloc, words, &mut source, &mut sink, &mut errs);
     Ok(Made {
         status,
         output: sink.held_bytes().to_vec(alloc)?,
@@ -725,14 +736,12 @@ fn both_zero(alloc: Global, runs: u32) -> Result<String, AllocError> {
     report(alloc, "sc", runs, lines.as_str(), [0, 1, 0])
 }
 
-const WORDS: [(&str, Status, &str); 9] = [
+const WORDS: [(&str, Status, &str); 7] = [
     ("", Status::Words, "mtrace: words\n"),
     ("check --chunk 0", Status::Words, "mtrace: words\n"),
     ("verify", Status::Words, "mtrace: words\n"),
     ("check --seed 007", Status::Words, "mtrace: words\n"),
     ("--help", Status::Words, "mtrace: words\n"),
-    ("run", Status::NotBuilt, "mtrace: not built\n"),
-    ("demo --model tso", Status::NotBuilt, "mtrace: not built\n"),
     (
         "replay --target pso --fault loadload",
         Status::Words,

@@ -2,3 +2,4 @@ mod Digits
 mod Walk
 mod Counts
 mod Whole
+mod SummaryLines

@@ -1,7 +1,7 @@
 -- The report, line by line.
-use Rattle.std.specs.Prelude.{ℕ, List, [], ◌∷◌, ◌++◌, Bool, true, false, not, map, length, count_by, codes, Option, Some, None}
+use Rattle.std.specs.Prelude.{ℕ, List, [], ◌∷◌, ◌++◌, Bool, true, false, not, ◌||◌, map, filter, length, count_by, codes, Option, Some, None, nat_eq}
 use Rattle.std.specs.Fmt.{decimal}
-use Rattle.std.specs.List.{flat_map, list_any, zip}
+use Rattle.std.specs.List.{flat_map, list_any, starts_with, zip}
 use Rattle.tally.specs.declared.outcome.Outcome.{Outcome}
 use Rattle.tally.specs.declared.outcome.Outcome.TheVariants.{Inside, Outside}
 use Rattle.test_lang.specs.Text.Line.{closed}
@@ -100,6 +100,18 @@ report_text_of model runs tally found work = closed (report_lines_of model runs 
 -- The text of a report.
 abbrev pub report_text : Report → List ℕ
 report_text report = report_text_of report.model report.runs report.tally.now report.found.now report.work
+
+-- whether a line tells an outcome: it begins with `sig` or with `outside`
+abbrev pub tells_outcome : List ℕ → Bool
+tells_outcome line = starts_with nat_eq line (codes "sig") || starts_with nat_eq line (codes "outside")
+
+-- The summary of the same findings: the lines of the report, without those that tell outcomes.
+abbrev pub summary_text_of : MemModel → ℕ → List (Outcome × ℕ) → List Judged → Work → List ℕ
+summary_text_of model runs tally found work = closed (filter (λ line. not (tells_outcome line)) (report_lines_of model runs tally found work))
+
+-- The text of a report's summary.
+abbrev pub summary_text : Report → List ℕ
+summary_text report = summary_text_of report.model report.runs report.tally.now report.found.now report.work
 
 abbrev pub is_outside : Outcome → Bool
 is_outside (Inside words) = false

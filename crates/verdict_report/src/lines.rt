@@ -112,6 +112,19 @@ pub fn push_outcomes(out: &mut Vec<u8>, tally: &Tally, found: &[Judged]) -> Resu
     Ok(outside)
 }
 
+/// The number of outcomes outside.
+pub fn count_outside(tally: &Tally) -> u64
+    ensures { result ≡ length (outsides tally.now) }
+{
+    let mut count = 0;
+    for (outcome, _) in tally.iter() {
+        if let Outcome::Outside { .. } = outcome {
+            count += 1;
+        }
+    }
+    count
+}
+
 /// How many verdicts are `Ok`.
 fn count_ok(found: &[Judged]) -> u64
     ensures { result ≡ count_by is_ok found.now }

@@ -2,7 +2,7 @@
 ghost use Rattle.std.specs.Prelude.{◌≡◌, length};
 ghost use Rattle.verdict_report.specs.Lines.{signatures};
 
-use crate::{Judged, Report, Work, text};
+use crate::{Judged, Report, Work, run_line, summary, text};
 use digraph::Nodes;
 use std::alloc::{AllocError, Global};
 use std::test::Fail;
@@ -77,8 +77,8 @@ fn count_signatures(tally: &Tally) -> usize
     count
 }
 
-/// The text of the case's report, and whether it is clean.
-fn written(alloc: Global, case: &Case<'_>) -> Result<(Vec<u8>, bool), Fail> {
+/// The text of the case's report, its summary, and whether it is clean.
+fn written(alloc: Global, case: &Case<'_>) -> Result<(Vec<u8>, Vec<u8>, bool), Fail> {
     let tally = tally_of(alloc, case)?;
     let mut found = Vec::new(alloc);
     for cycle in case.cycles {
@@ -101,7 +101,11 @@ fn written(alloc: Global, case: &Case<'_>) -> Result<(Vec<u8>, bool), Fail> {
             nodes,
         },
     };
-    Ok((text(alloc, &report)?, report.is_clean()))
+    Ok((
+        text(alloc, &report)?,
+        summary(alloc, &report)?,
+        report.is_clean(),
+    ))
 }
 
 const CASES: [Case<'static>; 7] = [
@@ -229,10 +233,27 @@ const CASES: [Case<'static>; 7] = [
     },
 ];
 
-/// Whether the case's report is written as it must be, and is clean or not.
+/// The lines of a text that tell no outcome.
+fn without_outcomes(alloc: Global, text: &str) -> Result<String, AllocError> {
+    let mut left = String::new(alloc);
+    for line in text.lines() {
+        if !line.starts_with("sig") && !line.starts_with("outside") {
+            left.push_str(line)?;
+            left.push('\n')?;
+        }
+    }
+    Ok(left)
+}
+
+/// Whether the case's report and its summary are written as they must be, and the report is clean or not.
 fn is_written(alloc: Global, case: &Case<'_>) -> Result<bool, Fail> {
-    let (out, clean) = written(alloc, case)?;
-    Ok(out.as_slice() == case.want.as_bytes() && clean == case.clean)
+    let (whole, short, clean) = written(alloc, case)?;
+    let left = without_outcomes(alloc, case.want)?;
+    Ok(
+        whole.as_slice() == case.want.as_bytes()
+            && short.as_slice() == left.as_bytes()
+            && clean == case.clean,
+    )
 }
 
 #[test]
@@ -240,5 +261,29 @@ fn reports_are_written(rt: HostRuntime) -> Result<(), Fail> {
     for case in &CASES {
         assert!(rt; is_written(rt.alloc(), case)?);
     }
+    Ok(())
+}
+
+/// Runs, and their lines.
+const RUNS: [(&[u32], &str); 4] = [
+    (&[], "run\n"),
+    (&[0], "run 0\n"),
+    (&[2, 0, 10, 4294967295], "run 2 0 10 4294967295\n"),
+    (&[1, 1], "run 1 1\n"),
+];
+
+/// The first run that has another line, if there is one.
+fn wrong_line(alloc: Global) -> Result<Option<usize>, AllocError> {
+    for (place, (values, line)) in RUNS.iter().enumerate() {
+        if run_line(alloc, values)?.as_slice() != line.as_bytes() {
+            return Ok(Some(place));
+        }
+    }
+    Ok(None)
+}
+
+#[test]
+fn lines_of_runs(rt: HostRuntime) -> Result<(), Fail> {
+    assert_eq!(rt; wrong_line(rt.alloc())?, None);
     Ok(())
 }

@@ -19,6 +19,6 @@ pub returns-clause-report : goal.returns-clause-report
 returns-clause-report c = λ runs counted.
     let tally = c.args.counted.now.tally.now in
     let text = c.in_ok-write_report.field-0.text.items in
-    report_by c.args.model c.args.chunk c.args.counted.now.test.now runs c.args.counted.now.runs (length c.deref.result.now) tally c.deref.result.now c.in_ok-found.found.items text
+    report_by c.args.form c.args.model c.args.chunk c.args.counted.now.test.now runs c.args.counted.now.runs (length c.deref.result.now) tally c.deref.result.now c.in_ok-found.found.items text
     c.in_ok-write_report.field-0.is_clean c.deref.ensures.value c.in_ok-found.ensures (ap (length {A = Judged}) c.deref.ensures.value) c.in_ok-write_report.ensures.text c.in_ok-write_report.ensures.clean
     (subst (λ (n : ℕ). (c.args.chunk ≡ 1) ⊎ (n ≤ 1)) c.count_signatures-signatures.ensures (no_of c.shares_chunks.result _ c.if-shares_chunks.false c.shares_chunks.ensures.none)) counted

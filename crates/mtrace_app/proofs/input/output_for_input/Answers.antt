@@ -1,5 +1,7 @@
-use Rattle.std.proofs.Common.{◌∙◌}
+use Rattle.std.proofs.Common.{◌∙◌, subst}
 use Rattle.std.proofs.lemmas.Result.{err_from_is_err_and}
+use Rattle.mtrace_app.specs.declared.form.Form.{Form}
+use Rattle.mtrace_app.specs.Report.{IsReportIn}
 use Rattle.mtrace_app.proofs.Counts.{counted_here, if_ok_more, output_here, refuses_input, too_large}
 use Rattle.mtrace_app.proofs.input.output_for_input.Goals as goal
 
@@ -24,5 +26,6 @@ returns-clause-output c =
     if_ok_more c.report_of.result _ _
     (λ output report.
     output_here s c.args.input.now read.test ok.0 read.runs read.tally ok.1 ok.2 c.from.result same fit output.text.items output.is_clean c.requires.built c.requires.reports
-    (report ok.0 (counted_here s c.args.input.now read.test ok.0 read.runs read.tally ok.1 ok.2 c.from.result same fit)))
+    (subst (λ (form : Form). IsReportIn form s.model s.chunk read.test ok.0 output.text.items output.is_clean) c.of.ensures
+    (report ok.0 (counted_here s c.args.input.now read.test ok.0 read.runs read.tally ok.1 ok.2 c.from.result same fit))))
     c.report_of.ensures.report

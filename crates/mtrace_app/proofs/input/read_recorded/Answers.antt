@@ -16,3 +16,7 @@ returns-in-Check-clause-err c =
 pub returns-in-Replay-clause-err : goal.returns-in-Replay-clause-err
 returns-in-Replay-clause-err c =
     subst (λ (d : Command). IfErr c.read_plays.result (IfRefused (λ refusal. (fault : InputFault) × (refusal ≡ Input fault) × RefusesBy d c.args.settings.now c.args.input.now fault))) (sym c.in-Replay.is) c.read_plays.ensures.err
+
+pub returns-in-Run-clause-err : goal.returns-in-Run-clause-err
+returns-in-Run-clause-err c =
+    subst (λ (d : Command). IfErr c.draw_runs_of_input.result (IfRefused (λ refusal. (fault : InputFault) × (refusal ≡ Input fault) × RefusesBy d c.args.settings.now c.args.input.now fault))) (sym c.in-Run.is) c.draw_runs_of_input.ensures.err

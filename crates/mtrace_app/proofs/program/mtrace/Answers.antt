@@ -38,7 +38,7 @@ pub returns-clause-no_alarm : goal.returns-clause-no_alarm
 returns-clause-no_alarm g c = λ s settings free.
     let source = change (g.S.Source.left c.args.source.now) (g.S.Source.left c.answer_words-answer.new.source) (g.S.Source.faults c.args.source.now) (g.S.Source.faults c.answer_words-answer.new.source) in
     let sink = change (g.K.Sink.held c.args.sink.now) (g.K.Sink.held c.put_output-status.new.sink) (g.K.Sink.faults c.args.sink.now) (g.K.Sink.faults c.put_output-status.new.sink) in
-    not_found (texts c.args.words.now) s source sink c.put_output-status.result c.told.result.now settings (λ bytes text is_clean out. c.machines_raise_no_alarm.ensures s bytes text is_clean free out)
+    not_found (texts c.args.words.now) s source sink c.put_output-status.result c.told.result.now settings (λ bytes text is_clean out. c.machines_raise_no_alarm.ensures (texts c.args.words.now) s bytes text is_clean settings free out)
     (answers sink c.put_output-status.result (texts c.args.words.now) source c.answer_words-answer.result c.told.result.now c.answer_words-answer.ensures.answer c.put_output-status.ensures.put
     c.told.ensures.failed c.told.ensures.other)
     (input_of s source.before) refl
