@@ -14,3 +14,7 @@ pub mod Bases
 pub mod Comparing
 pub mod Resorts
 pub mod OneWalk
+pub mod Missing
+pub mod Pairing
+pub mod NextOfAll
+pub mod PlainWalks

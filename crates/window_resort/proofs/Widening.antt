@@ -9,6 +9,42 @@ use Rattle.window_resort.specs.Windows.{IsSpan, Spans}
 use Rattle.window_resort.proofs.BackwardEdges.{same_span}
 use Rattle.window_resort.proofs.Places.{le_or_lt}
 
+-- whatever is spanned, by one pair of places more
+module _ (Before After : ℕ → ℕ → Type 0) (source target : ℕ) (old_back : (i j : ℕ) → Before i j → After i j) (old_or_new : (i j : ℕ) → After i j → Before i j ⊎ ((source ≡ i) × (target ≡ j))) (new_back : After source target) where
+  pub span_with : (window : Option Window) → IsSpan Before window → Spans After (widened window source target)
+  span_with None none = record {
+    to_first = (source, new_back);
+    first = λ i j k. elim (old_or_new i j k) [ inl old ↦ absurd (none i j old) | inr new ↦ let t = new.1 in omega (arith, t) ];
+    from_last = (target, new_back);
+    last = λ i j k. elim (old_or_new i j k) [ inl old ↦ absurd (none i j old) | inr new ↦ let s = new.0 in omega (arith, s) ];
+  }
+  span_with (Some w) h = record {
+    to_first = elim (le_or_lt w.first target) [
+      | inl le ↦
+          let least : w.first ≡ min w.first target = omega (arith, le) in
+          (h.to_first.0, subst (After h.to_first.0) least (old_back h.to_first.0 w.first h.to_first.1))
+      | inr ge ↦
+          let least : target ≡ min w.first target = omega (arith, ge) in
+          (source, subst (After source) least new_back)
+    ];
+    first = λ i j k. elim (old_or_new i j k) [
+      | inl old ↦ let le = h.first i j old in omega (arith, le)
+      | inr new ↦ let t = new.1 in omega (arith, t)
+    ];
+    from_last = elim (le_or_lt source w.last) [
+      | inl le ↦
+          let most : w.last ≡ max w.last source = omega (arith, le) in
+          (h.from_last.0, subst (λ (i : ℕ). After i h.from_last.0) most (old_back w.last h.from_last.0 h.from_last.1))
+      | inr gt ↦
+          let most : source ≡ max w.last source = omega (arith, gt) in
+          (target, subst (λ (i : ℕ). After i target) most new_back)
+    ];
+    last = λ i j k. elim (old_or_new i j k) [
+      | inl old ↦ let le = h.last i j old in omega (arith, le)
+      | inr new ↦ let s = new.0 in omega (arith, s)
+    ];
+  }
+
 module _ (places : List ℕ) (before : List (ℕ × ℕ)) (from to : ℕ) where
   abbrev more : List (ℕ × ℕ)
   more = before ++ (from, to) ∷ []
@@ -52,37 +88,5 @@ module _ (places : List ℕ) (before : List (ℕ × ℕ)) (from to : ℕ) where
       ])
       window h
 
-  module _ (lt : get_or places to 0 < get_or places from 0) where
-    pub span_widened : (window : Option Window) → IsSpan (LeadsBack places before) window → Spans (LeadsBack places more) (widened window (get_or places from 0) (get_or places to 0))
-    span_widened None none = record {
-      to_first = (get_or places from 0, new_back lt);
-      first = λ i j k. elim (old_or_new i j k) [ inl old ↦ absurd (none i j old) | inr new ↦ let t = new.1 in omega (arith, t) ];
-      from_last = (get_or places to 0, new_back lt);
-      last = λ i j k. elim (old_or_new i j k) [ inl old ↦ absurd (none i j old) | inr new ↦ let s = new.0 in omega (arith, s) ];
-    }
-    span_widened (Some w) h = record {
-      to_first = elim (le_or_lt w.first (get_or places to 0)) [
-        | inl le ↦
-            let least : w.first ≡ min w.first (get_or places to 0) = omega (arith, le) in
-            (h.to_first.0, subst (LeadsBack places more h.to_first.0) least (old_back h.to_first.0 w.first h.to_first.1))
-        | inr ge ↦
-            let least : get_or places to 0 ≡ min w.first (get_or places to 0) = omega (arith, ge) in
-            (get_or places from 0, subst (LeadsBack places more (get_or places from 0)) least (new_back lt))
-      ];
-      first = λ i j k. elim (old_or_new i j k) [
-        | inl old ↦ let le = h.first i j old in omega (arith, le)
-        | inr new ↦ let t = new.1 in omega (arith, t)
-      ];
-      from_last = elim (le_or_lt (get_or places from 0) w.last) [
-        | inl le ↦
-            let most : w.last ≡ max w.last (get_or places from 0) = omega (arith, le) in
-            (h.from_last.0, subst (λ (i : ℕ). LeadsBack places more i h.from_last.0) most (old_back w.last h.from_last.0 h.from_last.1))
-        | inr gt ↦
-            let most : get_or places from 0 ≡ max w.last (get_or places from 0) = omega (arith, gt) in
-            (get_or places to 0, subst (λ (i : ℕ). LeadsBack places more i (get_or places to 0)) most (new_back lt))
-      ];
-      last = λ i j k. elim (old_or_new i j k) [
-        | inl old ↦ let le = h.last i j old in omega (arith, le)
-        | inr new ↦ let s = new.0 in omega (arith, s)
-      ];
-    }
+  pub span_widened : get_or places to 0 < get_or places from 0 → (window : Option Window) → IsSpan (LeadsBack places before) window → Spans (LeadsBack places more) (widened window (get_or places from 0) (get_or places to 0))
+  span_widened lt = span_with (LeadsBack places before) (LeadsBack places more) (get_or places from 0) (get_or places to 0) old_back old_or_new (new_back lt)

@@ -13,6 +13,7 @@ mod held_graph;
 pub mod laws;
 mod load_rows;
 mod orders_kept;
+pub mod plain;
 mod spans;
 mod verdicts;
 

@@ -22,7 +22,7 @@ impl Window {
 }
 
 /// The window with the places of an edge that points backward.
-fn widen(window: Option<Window>, source: u32, target: u32) -> Window
+pub(crate) fn widen(window: Option<Window>, source: u32, target: u32) -> Window
     ensures { result ≡ widened window source target }
 {
     match window {
