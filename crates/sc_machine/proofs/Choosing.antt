@@ -1,13 +1,12 @@
 -- What is enabled on a machine, and its choices.
-use Rattle.std.proofs.Common.{◌≡◌, ◌∙◌, ℕ, zero, suc, ◌+◌, ◌<◌, ◌≤◌, List, [], ◌∷◌, ◌++◌, map, take, length, get_or, Bool, true, false, cond, Option, Some, None, arith, refl, sym, ap, subst, ⊎_elim}
-use Rattle.std.specs.Prelude.{count_by, filter, nat_lt, slice_get}
+use Rattle.std.proofs.Common.{◌≡◌, ◌∙◌, ℕ, zero, suc, ◌<◌, ◌≤◌, List, [], ◌∷◌, ◌++◌, map, take, length, get_or, Bool, true, false, cond, Option, Some, None, arith, refl, sym, ap, subst, ⊎_elim}
+use Rattle.std.specs.Prelude.{filter, nat_lt, slice_get}
 use Rattle.std.specs.List.{flat_map}
-use Rattle.std.specs.Option.{option_map_or}
+use Rattle.std.specs.Option.{option_map, option_map_or}
 use Rattle.std.proofs.lemmas.Bool.{cases_lt}
-use Rattle.std.proofs.lemmas.List.{get_or-map, length-map, take_all}
+use Rattle.std.proofs.lemmas.List.{get_or-map, get_or-take, length-map, map-append}
 use Rattle.std.proofs.lemmas.List.Elements.{filter-append}
-use Rattle.std.proofs.lemmas.List.Sums.{sum_by_push}
-use Rattle.std.proofs.lemmas.Option.{slice_get-get_or, slice_get_within, get_or_from_slice_get}
+use Rattle.std.proofs.lemmas.Option.{slice_get-get_or, slice_get-map, slice_get_within, get_or_from_slice_get}
 use Rattle.orders.specs.Orders.{nodes_below}
 use Rattle.test_lang.specs.declared.step.Step.{Step}
 use Rattle.test_lang.specs.declared.step.Step.TheVariants.{Execute, Drain, Perform}
@@ -15,12 +14,11 @@ use Rattle.test_lang.specs.Program.{thread_length}
 use Rattle.test_lang.specs.Play.States.{buffer, next_of}
 use Rattle.test_lang.specs.Play.Machines.{node_of}
 use Rattle.test_lang.specs.Play.Choices.{steps_of}
-use Rattle.test_lang.proofs.Places.{take-slice_get}
 use Rattle.sim_core.specs.Setup.{choices_after, is_enabled_after}
-use Rattle.sim_core.proofs.BelowLists.{filter-flat_map, filter-map, filter-none, flat_below-get, get_or-map_below, length-flat_below, length-map_below}
+use Rattle.sim_core.proofs.BelowLists.{filter-flat_map, filter-map, filter-none, flat_below-suc, get_or-map_below, length-map_below}
 use Rattle.sim_core.proofs.NextOperations.{next_of-beyond, next_of-position}
 use Rattle.sc_machine.specs.declared.threads.Thread.{Thread}
-use Rattle.sc_machine.specs.Threads.{thread_end, is_open, IsOpenBehind}
+use Rattle.sc_machine.specs.Threads.{thread_end, is_open, open_at, open_numbers}
 use Rattle.sc_machine.specs.Standing.{Standing, Stands, setup_of, state_of}
 use Rattle.sc_machine.specs.Machine.{IsMachine}
 
@@ -28,9 +26,9 @@ use Rattle.sc_machine.specs.Machine.{IsMachine}
 abbrev pub executes_if : Bool → ℕ → List Step
 executes_if b thread = cond b (Execute thread ∷ []) []
 
-length-executes_if : (b : Bool) (thread : ℕ) → length (executes_if b thread) ≡ cond b 1 0
-length-executes_if true thread = refl
-length-executes_if false thread = refl
+executes-one : (b : Bool) (thread : ℕ) → map Execute (cond b (thread ∷ []) []) ≡ executes_if b thread
+executes-one true thread = refl
+executes-one false thread = refl
 
 -- The threads as a machine keeps them.
 pub record KeepsThreads (m : Standing) (threads : List Thread) : Type 0 where
@@ -111,18 +109,17 @@ module _ (m : Standing) (steps : List Step) (h : Stands m steps) where
     choices-open : (number : ℕ) (thread : Thread) → slice_get threads number ≡ Some thread → thread_choices number ≡ executes_if (is_open thread) number
     choices-open number thread e = thread_choices-are number ∙ ap (λ (b : Bool). executes_if b number) (enabled-open number thread e)
 
-    counted : (n : ℕ) → n ≤ length threads → length (flat_map thread_choices (nodes_below n)) ≡ count_by is_open (take n threads)
-    counted zero le = refl
-    counted (suc n) le =
+    listed-below : (n : ℕ) → n ≤ length threads → flat_map thread_choices (nodes_below n) ≡ map Execute (filter (open_at threads) (nodes_below n))
+    listed-below zero le = refl
+    listed-below (suc n) le =
         let none : Thread = record { next = 0; end = 0 } in
         let here : slice_get threads n ≡ Some (get_or threads n none) = slice_get-get_or threads n none (omega (arith, le)) in
-        let before = counted n (omega (arith, le)) in
-        let more = length-flat_below thread_choices n in
-        let one : length (thread_choices n) ≡ cond (is_open (get_or threads n none)) 1 0 =
-        ap length (choices-open n (get_or threads n none) here) ∙ length-executes_if (is_open (get_or threads n none)) n in
-        let all : count_by is_open (take (suc n) threads) ≡ count_by is_open (take n threads) + cond (is_open (get_or threads n none)) 1 0 =
-        ap (count_by is_open) (take-slice_get threads n (get_or threads n none) here) ∙ sum_by_push (λ (t : Thread). cond (is_open t) 1 0) (take n threads) (get_or threads n none) in
-        omega (arith, before, more, one, all)
+        flat_below-suc thread_choices n
+        ∙ ap (λ (xs : List Step). xs ++ thread_choices n) (listed-below n (omega (arith, le)))
+        ∙ ap (λ (xs : List Step). map Execute (filter (open_at threads) (nodes_below n)) ++ xs) (choices-open n (get_or threads n none) here)
+        ∙ sym (ap (map Execute) (filter-append (open_at threads) (nodes_below n) (n ∷ []))
+        ∙ map-append Execute (filter (open_at threads) (nodes_below n)) (cond (open_at threads n) (n ∷ []) [])
+        ∙ ap (λ (xs : List Step). map Execute (filter (open_at threads) (nodes_below n)) ++ xs) (executes-one (open_at threads n) n))
 
     -- a thread that isn't there
     pub enabled-none : (number : ℕ) → slice_get threads number ≡ None → is_enabled_after (setup_of m) steps (Execute number) ≡ false
@@ -131,22 +128,21 @@ module _ (m : Standing) (steps : List Step) (h : Stands m steps) where
         (λ (le : length threads ≤ number). enabled-beyond number (omega (arith, le, as_many)))
         (cases_lt number (length threads))
 
-    -- As many steps are enabled as threads have an operation left.
-    pub count-is : count_by is_open threads ≡ length (choices_after (setup_of m) steps)
-    count-is =
-        ap (count_by is_open) (sym (take_all (length threads) threads (omega arith)))
-        ∙ sym (counted (length threads) (omega arith))
-        ∙ ap (λ (n : ℕ). length (flat_map thread_choices (nodes_below n))) as_many
-        ∙ ap length (sym choices-are)
+    -- The choices are the executions of the threads with an operation left.
+    pub choices-listed : choices_after (setup_of m) steps ≡ map Execute (open_numbers threads)
+    choices-listed =
+        choices-are
+        ∙ ap (λ (n : ℕ). flat_map thread_choices (nodes_below n)) (sym as_many)
+        ∙ listed-below (length threads) (omega arith)
 
-    -- The choice with a number is that of the thread with an operation left before which so many have one.
-    pub choice-is : (before number : ℕ) → IsOpenBehind threads before number → slice_get (choices_after (setup_of m) steps) before ≡ Some (Execute number)
-    choice-is before number is =
-        let here = slice_get_within threads number is.thread is.at in
-        let within : number < length m.test.threads = omega (arith, here, as_many) in
-        let one : slice_get (thread_choices number) 0 ≡ Some (Execute number) =
-        ap (λ (xs : List Step). slice_get xs 0) (choices-open number is.thread is.at ∙ ap (λ (b : Bool). executes_if b number) is.is_open_too) in
-        let place : length (flat_map thread_choices (nodes_below number)) + 0 ≡ before = let told = counted number (omega (arith, here)) in let same = is.before in omega (arith, told, same) in
-        ap (λ (xs : List Step). slice_get xs before) choices-are
-        ∙ ap (slice_get (flat_map thread_choices (nodes_below (length m.test.threads)))) (sym place)
-        ∙ flat_below-get thread_choices (length m.test.threads) number 0 (Execute number) within one
+    pub count-is : length (open_numbers threads) ≡ length (choices_after (setup_of m) steps)
+    count-is = sym (ap length choices-listed ∙ length-map (open_numbers threads) Execute)
+
+    -- The choice with a number is that of the thread with this place in the list.
+    pub choice-is : (listed : List ℕ) (count place number : ℕ) → take count listed ≡ open_numbers threads → count ≡ length (open_numbers threads) → place < count → number ≡ get_or listed place 0
+        → slice_get (choices_after (setup_of m) steps) place ≡ Some (Execute number)
+    choice-is listed count place number listed_are counted lt is =
+        let there : slice_get (open_numbers threads) place ≡ Some number =
+        slice_get-get_or (open_numbers threads) place 0 (omega (arith, counted, lt))
+        ∙ ap Some (ap (λ (xs : List ℕ). get_or xs place 0) (sym listed_are) ∙ get_or-take count listed place 0 lt ∙ sym is) in
+        ap (λ (xs : List Step). slice_get xs place) choices-listed ∙ slice_get-map Execute (open_numbers threads) place ∙ ap (option_map Execute) there

@@ -1,7 +1,8 @@
 -- The fields of a machine when a thread executes its next operation.
-use Rattle.std.proofs.Common.{◌≡◌, ◌∙◌, ℕ, ◌+◌, ◌-◌, ◌<◌, ◌≤◌, List, [], ◌∷◌, ◌++◌, map, set, length, get_or, Bool, false, cond, Some, arith, sym, ap, subst}
-use Rattle.std.specs.Prelude.{IsTrue}
+use Rattle.std.proofs.Common.{◌≡◌, ◌∙◌, ℕ, ◌+◌, ◌-◌, ◌<◌, ◌≤◌, List, [], ◌∷◌, ◌++◌, map, set, length, get_or, Bool, true, false, cond, Some, arith, refl, sym, ap, subst}
+use Rattle.std.specs.Prelude.{IsTrue, not}
 use Rattle.std.proofs.lemmas.List.{get_or-map, map-set, set-get_or}
+use Rattle.std.proofs.lemmas.Option.{slice_get-get_or}
 use Rattle.orders.specs.Orders.{nodes_below}
 use Rattle.test_lang.specs.declared.op.Op.TheVariants.{Load, Store, Fence}
 use Rattle.test_lang.specs.declared.step.Step.{Step}
@@ -12,10 +13,11 @@ use Rattle.test_lang.specs.Play.Faults.{is_stale}
 use Rattle.test_lang.proofs.Nodes.{is_load_at-op, is_store_at-op}
 use Rattle.sim_core.specs.Setup.{is_enabled_after}
 use Rattle.sc_machine.specs.declared.threads.Thread.{Thread}
-use Rattle.sc_machine.specs.Threads.{thread_end}
+use Rattle.sc_machine.specs.Threads.{is_open, open_numbers, thread_end}
 use Rattle.sc_machine.specs.Standing.{Standing, Stands, setup_of, given_by, executing_at}
 use Rattle.sc_machine.specs.Machine.{IsMachine, standing_of}
-use Rattle.sc_machine.proofs.Choosing.{as_many}
+use Rattle.sc_machine.proofs.Choosing.{as_many, enabled-open}
+use Rattle.sc_machine.proofs.Listing.{same_open}
 use Rattle.sc_machine.proofs.Executing.{node_within, one_step_left, stands_after, thread_within, word_at-op}
 
 -- A thread may execute its next operation.
@@ -25,6 +27,10 @@ MayExecute m thread = (steps : List Step) → Stands m steps → IsTrue (is_enab
 -- what is asked of a machine is asked of what its fields show
 pub asked : (view m : Standing) (thread : ℕ) → view ≡ m → MayExecute m thread → MayExecute view thread
 asked view m thread is may = subst (λ (s : Standing). MayExecute s thread) (sym is) may
+
+-- a thread behind its next operation
+abbrev pub moved_on : Thread → Thread
+moved_on t = record { next = t.next + 1; end = t.end }
 
 module _ (m : Standing) (threads : List Thread) (k : IsMachine m threads) (positions_are : map (λ thread. thread.next) threads ≡ m.positions) (thread : ℕ) (may : MayExecute m thread) where
   stands : Stands m k.stands_for.0
@@ -53,6 +59,24 @@ module _ (m : Standing) (threads : List Thread) (k : IsMachine m threads) (posit
 
   pub some_left : 1 ≤ m.left
   some_left = one_step_left m k.stands_for.0 stands thread (may k.stands_for.0 stands)
+
+  pub few_threads : length threads ≤ 16
+  few_threads =
+      let many = as_many m k.stands_for.0 stands threads (record { positions_are = positions_are; ends_are = k.ends_are }) in
+      let limits = stands.limits.threads in
+      omega (arith, many, limits)
+
+  pub open_here : (t : Thread) → t ≡ get_or threads thread t → is_open t ≡ true
+  open_here t here =
+      sym (enabled-open m k.stands_for.0 stands threads (record { positions_are = positions_are; ends_are = k.ends_are }) thread t (slice_get-get_or threads thread t in_threads ∙ ap Some (sym here)))
+      ∙ may k.stands_for.0 stands
+
+  -- the same threads have an operation left where this was not the thread's last
+  pub listed_after : (t : Thread) → t ≡ get_or threads thread t → (closed : Bool) → closed ≡ not (is_open (moved_on t)) → closed ≡ false → open_numbers (set threads thread (moved_on t)) ≡ open_numbers threads
+  listed_after t here closed told stays = same_open threads thread t (moved_on t) in_threads here (open_here t here) (at (is_open (moved_on t)) (sym told ∙ stays)) where
+    at : (b : Bool) → not b ≡ false → b ≡ true
+    at true e = refl
+    at false e = absurd (cc e)
 
   -- What the fields become.
   module _ (t u : Thread) (here : t ≡ get_or threads thread t) (there : u ≡ get_or threads thread u) where

@@ -1,5 +1,6 @@
 -- The threads of a machine: where each stands, and where it ends.
-use Rattle.std.specs.Prelude.{◌≡◌, ℕ, ◌+◌, List, take, count_by, Bool, true, Some, nat_lt, slice_get}
+use Rattle.std.specs.Prelude.{ℕ, ◌+◌, List, length, filter, Bool, nat_lt, slice_index_or}
+use Rattle.orders.specs.Orders.{nodes_below}
 use Rattle.test_lang.specs.Program.{Program, first_node, thread_length}
 use Rattle.sc_machine.specs.declared.threads.Thread.{Thread}
 
@@ -15,9 +16,10 @@ opening_thread p thread = record { next = first_node p thread; end = thread_end 
 abbrev pub is_open : Thread → Bool
 is_open thread = nat_lt thread.next thread.end
 
--- The thread has an operation left, and so have so many of those before it.
-pub record IsOpenBehind (threads : List Thread) (open_before number : ℕ) : Type 0 where
-  pub thread : Thread
-  pub at : slice_get threads number ≡ Some thread
-  pub is_open_too : is_open thread ≡ true
-  pub before : count_by is_open (take number threads) ≡ open_before
+-- the same of the thread with this number
+abbrev pub open_at : List Thread → ℕ → Bool
+open_at threads number = is_open (slice_index_or threads number (record { next = 0; end = 0 }))
+
+-- the numbers of those that have one, rising
+abbrev pub open_numbers : List Thread → List ℕ
+open_numbers threads = filter (open_at threads) (nodes_below (length threads))

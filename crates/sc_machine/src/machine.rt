@@ -8,7 +8,7 @@ ghost use Rattle.test_lang.specs.Play.Faults.{is_stale};
 ghost use Rattle.sim_core.specs.Setup.{is_enabled_after};
 ghost use Rattle.sc_machine.specs.Standing.{Standing, Stands, setup_of, executing_at};
 
-use crate::threads::{Thread, count_open, nth_open, opening_threads, rewind};
+use crate::threads::{Thread, list_again, list_open, opening_threads, rewind};
 use sim_core::Machine;
 use std::alloc::{AllocError, Global};
 use std::marker::Model;
@@ -19,7 +19,8 @@ use test_lang::test::Test;
 
 /// A machine on which each operation takes effect when it is executed, in the order of its thread.
 ///
-/// A step takes constant time, and to count or to choose takes that of the threads. All memory is taken by `new`.
+/// To count and to choose takes constant time, and so does a step, but for the last of a thread, which looks at all threads.
+/// All memory is taken by `new`.
 #[derive(Debug, Drop)]
 pub struct ScMachine {
     test: Test,
@@ -33,19 +34,23 @@ pub struct ScMachine {
     loads: Vec<u32>,
     /// How many operations are left.
     left: u32,
+    /// The threads that have an operation left, rising. Behind them stands what was left there.
+    open_threads: Vec<u32>,
+    /// How many have one.
+    open_count: u32,
 }
 
 impl Model for ScMachine {
     ghost use Rattle.sc_machine.specs.Standing.{Standing};
-    ghost use Rattle.sc_machine.specs.Machine.{IsMachine, standing_of};
+    ghost use Rattle.sc_machine.specs.Machine.{IsCounted, standing_of};
 
     ghost Value = { Standing };
 
     ghost view = { λ m. standing_of m.test m.fault m.threads.items m.now.items m.before.items m.loads.items m.left };
 
-    ghost invariant = { λ m. IsMachine
+    ghost invariant = { λ m. IsCounted
         (standing_of m.test m.fault m.threads.items m.now.items m.before.items m.loads.items m.left)
-        m.threads.items };
+        m.threads.items m.open_threads.items m.open_count };
 }
 
 fn clear(values: &mut [u32])
@@ -73,14 +78,19 @@ impl ScMachine {
         ensures stands { IfOk result (λ machine. Stands machine []) }
     {
         let words = test.words() as usize;
+        let threads = opening_threads(alloc, test)?;
+        let mut open_threads = vec![in alloc; 0u32; threads.len()]?;
+        let open_count = list_open(&threads, &mut open_threads);
         Ok(ScMachine {
             test: test.clone()?,
             fault,
-            threads: opening_threads(alloc, test)?,
+            threads,
             now: vec![in alloc; 0u32; words]?,
             before: vec![in alloc; 0u32; words]?,
             loads: vec![in alloc; 0u32; test.loads() as usize]?,
             left: test.ops(),
+            open_threads,
+            open_count,
         })
     }
 
@@ -90,8 +100,19 @@ impl ScMachine {
             IsTrue (is_enabled_after (setup_of self.old) steps (Execute thread)) }
         ensures { self.new ≡ executing_at self.old thread (slice_index self.old.positions thread) }
     {
-        let node = self.threads[thread as usize].next;
-        self.threads[thread as usize].next = node + 1;
+        let standing = self.threads[thread as usize];
+        let node = standing.next;
+        let moved = Thread {
+            next: node + 1,
+            ..standing
+        };
+        self.threads[thread as usize] = moved;
+        self.open_count = list_again(
+            !moved.is_open(),
+            &self.threads,
+            &mut self.open_threads,
+            self.open_count,
+        );
         self.left -= 1;
         match self.test.op(node) {
             Op::Load { word } => {
@@ -116,12 +137,12 @@ impl Machine for ScMachine {
     ghost stands = { Stands };
 
     fn count(&self) -> u32 {
-        count_open(&self.threads)
+        self.open_count
     }
 
     fn choice(&self, k: u32) -> Step {
         Step::Execute {
-            thread: nth_open(&self.threads, k),
+            thread: self.open_threads[k as usize],
         }
     }
 
@@ -153,6 +174,7 @@ impl Machine for ScMachine {
         clear(&mut self.before);
         clear(&mut self.loads);
         self.left = self.test.ops();
+        self.open_count = list_open(&self.threads, &mut self.open_threads);
     }
 
     fn loads(&self) -> &[u32] {

@@ -1,7 +1,7 @@
 //! Where the threads of a machine stand.
-ghost use Rattle.std.specs.Prelude.{◌≡◌, ◌<◌, ◌≤◌, IfOk, length, map, count_by};
+ghost use Rattle.std.specs.Prelude.{◌≡◌, ◌<◌, ◌≤◌, false, IfOk, length, map, take};
 ghost use Rattle.orders.specs.Orders.{nodes_below};
-ghost use Rattle.sc_machine.specs.Threads.{is_open, opening_thread, thread_end, IsOpenBehind};
+ghost use Rattle.sc_machine.specs.Threads.{is_open, open_numbers, opening_thread, thread_end};
 
 use std::alloc::{AllocError, Global};
 use test_lang::test::Test;
@@ -71,28 +71,35 @@ pub fn rewind(test: &Test, threads: &mut [Thread])
     }
 }
 
-/// How many threads have an operation left.
-pub fn count_open(threads: &[Thread]) -> u32
-    requires { length threads.now ≤ 16 }
-    ensures { result ≡ count_by is_open threads.now }
-{
-    threads.iter().filter(|thread| thread.is_open()).count() as u32
-}
-
-/// The number of the thread with an operation left, before which `open_before` have one.
-pub fn nth_open(threads: &[Thread], open_before: u32) -> u32
+/// Lists the threads with an operation left at the front, rising, and answers how many there are.
+pub fn list_open(threads: &[Thread], listed: &mut [u32]) -> u32
     requires few { length threads.now ≤ 16 }
-    requires there { open_before < count_by is_open threads.now }
-    ensures { IsOpenBehind threads.now open_before result }
+    requires room { length listed.old ≡ length threads.now }
+    ensures count { result ≡ length (open_numbers threads.now) }
+    ensures listed { take result listed.new ≡ open_numbers threads.now }
 {
-    let mut left = open_before;
+    let mut count = 0;
     for (number, thread) in threads.iter().enumerate() {
         if thread.is_open() {
-            if left == 0 {
-                return number as u32;
-            }
-            left -= 1;
+            listed[count as usize] = number as u32;
+            count += 1;
         }
     }
-    unreachable!()
+    count
+}
+
+/// Lists them anew where a thread was closed, which executed its last operation. Otherwise the list stays, with as many as there were.
+pub fn list_again(closed: bool, threads: &[Thread], listed: &mut [u32], count: u32) -> u32
+    requires few { length threads.now ≤ 16 }
+    requires room { length listed.old ≡ length threads.now }
+    requires count { closed ≡ false → count ≡ length (open_numbers threads.now) }
+    requires listed { closed ≡ false → take count listed.old ≡ open_numbers threads.now }
+    ensures count { result ≡ length (open_numbers threads.now) }
+    ensures listed { take result listed.new ≡ open_numbers threads.now }
+{
+    if closed {
+        list_open(threads, listed)
+    } else {
+        count
+    }
 }

@@ -13,12 +13,12 @@ returns-in-Some c = λ steps h.
     let there = slice_get_read c.deref.result.now (length c.deref.result.now) c.in-Execute.thread c.in-Some.thread.now refl found.3.0 found.1 in
     c.is_open.ensures
     ∙ sym (ap (is_enabled_after (setup_of c.args.self.now) steps) c.in-Execute.is
-    ∙ enabled-open c.args.self.now steps h c.self.inside.threads.items (keeps_threads _ _ _ c.self.invariant refl c.self.view_is) c.in-Execute.thread c.in-Some.thread.now
+    ∙ enabled-open c.args.self.now steps h c.self.inside.threads.items (keeps_threads _ _ _ c.self.invariant.machine refl c.self.view_is) c.in-Execute.thread c.in-Some.thread.now
     (ap (λ (threads : List Thread). slice_get threads c.in-Execute.thread) (sym c.deref.ensures.value) ∙ there))
 
 pub returns-in-None : goal.returns-in-None
 returns-in-None c = λ steps h.
     let past = c.in-None.ensures.lookup in
     sym (ap (is_enabled_after (setup_of c.args.self.now) steps) c.in-Execute.is
-    ∙ enabled-none c.args.self.now steps h c.self.inside.threads.items (keeps_threads _ _ _ c.self.invariant refl c.self.view_is) c.in-Execute.thread
+    ∙ enabled-none c.args.self.now steps h c.self.inside.threads.items (keeps_threads _ _ _ c.self.invariant.machine refl c.self.view_is) c.in-Execute.thread
     (ap (λ (threads : List Thread). slice_get threads c.in-Execute.thread) (sym c.deref.ensures.value) ∙ slice_get_past c.deref.result.now c.in-Execute.thread past.3))
