@@ -81,6 +81,7 @@ impl Machine for Buffered {
         self.total
     }
 
+    #[inline(always)]
     fn choice(&self, k: u32) -> Step {
         let mut left = k;
         for thread in 0..self.playing.threads() {
@@ -97,6 +98,7 @@ impl Machine for Buffered {
         self.playing.enabled(step)
     }
 
+    #[inline(always)]
     fn step(&mut self, step: Step) {
         let thread = self.playing.take(step);
         let count = self.playing.count_choices(thread);
@@ -122,3 +124,6 @@ impl Machine for Buffered {
 
     ghost limits = { λ machine steps stands. stands.limits };
 }
+
+#[cfg(test)]
+mod tests;

@@ -8,14 +8,16 @@ use std::alloc::{AllocError, Global};
 use std::marker::Model;
 use test_lang::test::Test;
 
-/// Where the entries of a thread stand, and its room.
+/// A thread's part of the list of nodes, and where its entries stand in it.
 #[derive(Clone, Copy, Debug, Drop)]
 struct Range {
+    /// Where the part begins. After a clear the first entry is put here.
     first: u32,
     /// The place of the oldest entry.
     begin: u32,
-    /// The place behind the newest.
+    /// The place behind the newest entry, where the next one is put.
     end: u32,
+    /// The place behind the part. That of the next thread begins no earlier.
     limit: u32,
 }
 

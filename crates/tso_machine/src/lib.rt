@@ -1,5 +1,5 @@
 //! The machines with buffers: stores and store fences of a thread wait in its buffer until they are drained. `TsoMachine` drains a buffer in order, and
-//! `PsoMachine` lets stores to different words pass each other.
+//! `PsoMachine` lets stores to different words pass each other, unless a store fence stands between.
 //!
 //! What is proved:
 //! `TsoMachine`, `PsoMachine`: the machines of the definition of plays, with each fault that they can carry. They are made in their opening state, and each call

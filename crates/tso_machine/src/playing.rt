@@ -13,12 +13,12 @@ use test_lang::test::Test;
 mod asked;
 mod moved;
 
-/// In which order stores leave a buffer.
+/// In which order stores and store fences leave a buffer.
 #[derive(Clone, Copy, PartialEq, Eq, Debug, Drop)]
 pub enum StoreOrder {
-    /// In that of the thread.
+    /// Total store order: that of the thread.
     Total,
-    /// In any that keeps the order of stores to one word, and that of each pair with a store fence.
+    /// Partial store order: any that keeps the order of stores to one word, and that of each pair with a store fence.
     Partial,
 }
 
@@ -123,5 +123,11 @@ impl Playing {
         ensures { result.now ≡ self.now.loads }
     {
         &self.loads
+    }
+
+    /// The values of the words now.
+    #[cfg(test)]
+    pub fn values(&self) -> &[u32] {
+        &self.values
     }
 }

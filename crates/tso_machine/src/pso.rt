@@ -13,7 +13,8 @@ use test_lang::step::Step;
 use test_lang::target::Fault;
 use test_lang::test::Test;
 
-/// A machine whose stores wait in a buffer of their thread. Those to different words leave it in any order. Contracts see where it stands in a play.
+/// A machine whose stores and store fences wait in a buffer of their thread. A store may leave it before older stores to other words, unless a store fence
+/// stands between: nothing passes a store fence, and it passes nothing. Contracts see where it stands in a play.
 #[derive(Debug, Drop)]
 pub struct PsoMachine {
     machine: Buffered,

@@ -13,7 +13,7 @@ use test_lang::step::Step;
 use test_lang::target::Fault;
 use test_lang::test::Test;
 
-/// A machine whose stores wait in a buffer of their thread. They leave it in the order of the thread. Contracts see where it stands in a play.
+/// A machine whose stores and store fences wait in a buffer of their thread. They leave it in the order of the thread. Contracts see where it stands in a play.
 #[derive(Debug, Drop)]
 pub struct TsoMachine {
     machine: Buffered,

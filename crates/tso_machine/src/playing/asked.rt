@@ -132,6 +132,7 @@ impl Playing {
     }
 
     /// How many choices a thread has.
+    #[inline(always)]
     pub fn count_choices(&self, thread: u32) -> u32
         requires { thread < length self.now.setup.test.threads }
         ensures count { (steps : List Step) → StandsBehind self.now steps →

@@ -89,6 +89,7 @@ impl Playing {
     }
 
     /// Takes an enabled step, and answers whose it is.
+    #[inline(always)]
     pub fn take(&mut self, step: Step) -> u32
         requires { IsEnabled self.old step }
         ensures takes { Takes self.old self.new step }
