@@ -1,9 +1,11 @@
 -- Digits that are found from the last one to the first.
 use Rattle.std.proofs.Common.{◌*◌, ◌^◌, refl, ◌≡◌, ◌∙◌, ℕ, zero, suc, ◌+◌, ◌-◌, ◌<◌, ◌≤◌, ◌/◌, ◌%◌, List, [], ◌∷◌, ◌++◌, false, drop, set, length, ap, sym, append_assoc, arith}
+use Rattle.std.specs.Prelude.{All}
 use Rattle.std.proofs.lemmas.List.{drop-set, length_push}
+use Rattle.std.proofs.lemmas.List.Elements.{All-nil, All-push}
 use Rattle.std.proofs.lemmas.Bool.Decides.{nat_tests}
 use Rattle.std.specs.Fmt.{digit_glyph}
-use Rattle.verdict_report.specs.Numbers.{IsHexWord, hex_digit_value, hex_value_behind, hex_word, last_hex_digits}
+use Rattle.verdict_report.specs.Numbers.{IsHexDigit, IsHexWord, hex_digit_value, hex_value_behind, hex_word, last_hex_digits}
 
 pub one_more_digit : (place rest digit : ℕ) (digits whole : List ℕ) → 0 < place → place ≤ length digits → digit ≡ digit_glyph false (rest % 16) → last_hex_digits place rest ++ drop place digits ≡ whole
     → last_hex_digits (place - 1) (rest / 16) ++ drop (place - 1) (set digits (place - 1) digit) ≡ whole
@@ -31,6 +33,13 @@ value-push n (first ∷ glyphs) glyph = value-push (16 * n + hex_digit_value fir
 value-glyph : (d : ℕ) → d < 16 → hex_digit_value (digit_glyph false d) ≡ d
 value-glyph d small = grind (arith, nat_tests)
 
+glyph-digit : (d : ℕ) → d < 16 → IsHexDigit (digit_glyph false d)
+glyph-digit d small = grind (arith, nat_tests)
+
+each-digit : (k n : ℕ) → All IsHexDigit (last_hex_digits k n)
+each-digit zero n = All-nil IsHexDigit
+each-digit (suc k) n = All-push IsHexDigit (last_hex_digits k (n / 16)) (digit_glyph false (n % 16)) (each-digit k (n / 16)) (glyph-digit (n % 16) (omega arith))
+
 -- the numbers of so many digits are below this
 abbrev numbers_of : ℕ → ℕ
 numbers_of zero = 1
@@ -46,4 +55,4 @@ value-digits (suc k) n small =
 
 pub hex_word-spelled : (word : ℕ) → word < 2 ^ 64 → IsHexWord word (hex_word word)
 unfolding hex_word
-hex_word-spelled word small = record { small = small; long = length-digits 16 word; spelled = value-digits 16 word small }
+hex_word-spelled word small = record { small = small; long = length-digits 16 word; each = each-digit 16 word; spelled = value-digits 16 word small }

@@ -84,7 +84,7 @@ work_line work =
     codes "work" ++ named (codes "chunks") work.chunks ++ named (codes "full") work.full ++ named (codes "kept") work.kept
     ++ named (codes "resorted") work.resorted ++ named (codes "nodes") work.nodes
 
--- the same of a tally and the verdicts on its signatures
+-- the line that counts the lines of a tally, and of the verdicts on its signatures
 abbrev pub sum_line_of : List (Outcome × ℕ) → List Judged → List ℕ
 sum_line_of tally found = sum_line (length (signatures tally)) (count_by is_ok found) (count_by is_cycle found) (length (outsides tally))
 

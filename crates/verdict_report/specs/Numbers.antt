@@ -1,5 +1,5 @@
 -- Words and numbers as text.
-use Rattle.std.specs.Prelude.{◌≡◌, ℕ, suc, zero, ◌+◌, ◌-◌, ◌*◌, ◌/◌, ◌%◌, ◌^◌, ◌<◌, List, [], ◌∷◌, ◌++◌, length, false, codes, nat_lt, if◌then◌else◌}
+use Rattle.std.specs.Prelude.{◌≡◌, ◌⊎◌, ℕ, suc, zero, ◌+◌, ◌-◌, ◌*◌, ◌/◌, ◌%◌, ◌^◌, ◌<◌, ◌≤◌, All, List, [], ◌∷◌, ◌++◌, length, false, codes, nat_lt, if◌then◌else◌}
 use Rattle.std.specs.Fmt.{digit_glyph}
 use Rattle.std.specs.List.{flat_map}
 
@@ -21,10 +21,15 @@ abbrev pub hex_value_behind : ℕ → List ℕ → ℕ
 hex_value_behind n [] = n
 hex_value_behind n (glyph ∷ glyphs) = hex_value_behind (16 * n + hex_digit_value glyph) glyphs
 
+-- from `0` to `9`, or from `a` to `f`
+abbrev pub IsHexDigit : ℕ → Type 0
+IsHexDigit glyph = ((48 ≤ glyph) × (glyph ≤ 57)) ⊎ ((97 ≤ glyph) × (glyph ≤ 102))
+
 -- These digits spell the word, which is below 2^64.
 pub record IsHexWord (word : ℕ) (digits : List ℕ) : Type 0 where
   pub small : word < 2 ^ 64
   pub long : length digits ≡ 16
+  pub each : All IsHexDigit digits
   pub spelled : hex_value_behind 0 digits ≡ word
 
 -- the words of a signature, joined by full stops

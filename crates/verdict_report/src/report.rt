@@ -18,11 +18,11 @@ pub enum Judged {
 pub struct Work {
     /// The number of chunks.
     pub chunks: u64,
-    /// How many signatures had all their nodes sorted.
+    /// How many signatures had all their nodes sorted, also where no order came of it.
     pub full: u64,
     /// How many took over the order that was there.
     pub kept: u64,
-    /// How many had a window of that order sorted again.
+    /// How many had a window of that order sorted again, also where no order came of it.
     pub resorted: u64,
     /// The number of nodes in those windows.
     pub nodes: u64,
