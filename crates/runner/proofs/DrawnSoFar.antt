@@ -1,5 +1,5 @@
 -- Runs that are drawn and counted one after another.
-use Rattle.std.proofs.Common.{◌≡◌, ◌∙◌, ℕ, ◌+◌, List, [], ◌∷◌, ◌++◌, map, length, take, drop, length-append, length-drop, arith, refl, sym, ap, subst}
+use Rattle.std.proofs.Common.{◌≡◌, ◌∙◌, ℕ, ◌+◌, List, [], ◌∷◌, ◌++◌, map, length, take, drop, length-append, length-drop, arith, sym, ap, subst}
 use Rattle.std.proofs.lemmas.List.{map-append, length-take}
 use Rattle.tally.specs.declared.outcome.Outcome.{Outcome}
 use Rattle.tally.specs.Counting.{Counting, HasCounted}

@@ -1,1 +1,7 @@
 mod DrawnSoFar
+mod EachNth
+mod SumsBelow
+mod Together
+mod Played
+mod Puts
+mod Ends

@@ -17,7 +17,8 @@ use test_lang::text::fault::TestFault;
 use tso_machine::{PsoMachine, TsoMachine};
 use weak_machine::WeakMachine;
 
-const STORE_BUFFERING: &[u8] = b"mtest 1\nwords 2\nthread\nst 0\nld 1\nthread\nst 1\nld 0\nend\n";
+pub(crate) const STORE_BUFFERING: &[u8] =
+    b"mtest 1\nwords 2\nthread\nst 0\nld 1\nthread\nst 1\nld 0\nend\n";
 
 const STORE_BUFFERING_FENCES: &[u8] =
     b"mtest 1\nwords 2\nthread\nst 0\nfence\nld 1\nthread\nst 1\nfence\nld 0\nend\n";
@@ -256,7 +257,7 @@ const DRAWN: [Drawn; 18] = [
     },
 ];
 
-fn read_test(alloc: Global, text: &[u8]) -> Result<Test, TestFault> {
+pub(crate) fn read_test(alloc: Global, text: &[u8]) -> Result<Test, TestFault> {
     Ok(Test::read(alloc, text)?.test)
 }
 
@@ -405,7 +406,7 @@ fn add_on_its_machine(alloc: Global, job: &Job<'_>) -> Result<Tally, AllocError>
     }
 }
 
-fn are_equal(tally: &Tally, other: &Tally) -> bool {
+pub(crate) fn are_equal(tally: &Tally, other: &Tally) -> bool {
     tally.total() == other.total()
         && tally
             .iter()
