@@ -1,0 +1,12 @@
+pub mod Sums
+pub mod OneVerdict
+pub mod OneWork
+pub mod Cycles
+pub mod ChunkWalks
+pub mod Settling
+pub mod Taking
+pub mod Putting
+pub mod Whole
+pub mod Sharing
+pub mod Gathering
+pub mod Answered
