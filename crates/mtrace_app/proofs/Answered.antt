@@ -5,7 +5,7 @@ use Rattle.std.specs.Io.KnownBytes.{Appends, Keeps}
 use Rattle.mtrace_app.specs.declared.answer.Answer.{Answer}
 use Rattle.mtrace_app.specs.declared.answer.Answer.TheVariants.{Made, Refused, NoMemory}
 use Rattle.mtrace_app.specs.declared.refusal.Refusal.{Refusal}
-use Rattle.mtrace_app.specs.declared.refusal.Refusal.TheVariants.{Words, NotBuilt, ReadFault, Input, TooLarge}
+use Rattle.mtrace_app.specs.declared.refusal.Refusal.TheVariants.{Words, ReadFault, Input, TooLarge}
 use Rattle.mtrace_app.specs.declared.status.Status.{Status}
 use Rattle.mtrace_app.specs.declared.status.Status.TheVariants.{WriteFault, TooLarge as TooLargeStatus}
 use Rattle.mtrace_app.specs.Answering.{IsAnswerTo, IsPut, answer_line, answer_status}
@@ -20,19 +20,16 @@ output_is_written false e = cc
 
 refusal_is_no_fault : (refusal : Refusal) → status_of refusal ≡ WriteFault → ⊥
 refusal_is_no_fault Words e = cc
-refusal_is_no_fault NotBuilt e = cc
 refusal_is_no_fault ReadFault e = cc
 refusal_is_no_fault (Input fault) e = cc
 refusal_is_no_fault (TooLarge size) e = cc
 
 output_is_no_refusal : (b : Bool) (refusal : Refusal) → output_status b ≡ status_of refusal → ⊥
 output_is_no_refusal true Words e = cc
-output_is_no_refusal true NotBuilt e = cc
 output_is_no_refusal true ReadFault e = cc
 output_is_no_refusal true (Input fault) e = cc
 output_is_no_refusal true (TooLarge size) e = cc
 output_is_no_refusal false Words e = cc
-output_is_no_refusal false NotBuilt e = cc
 output_is_no_refusal false ReadFault e = cc
 output_is_no_refusal false (Input fault) e = cc
 output_is_no_refusal false (TooLarge size) e = cc

@@ -1,5 +1,5 @@
 -- What was taken of a source, and the causes of refusals.
-use Rattle.std.proofs.Common.{◌≡◌, ℕ, List, [], Bool, true, false, refl, sym, ap, subst, arith, inr}
+use Rattle.std.proofs.Common.{◌≡◌, ◌≤◌, ◌^◌, ℕ, List, [], length, Bool, true, false, refl, sym, ap, subst, arith}
 use Rattle.std.specs.Prelude.{◌↔◌, Option, Some, None, Ok, IfSome, IsErrOf, IsTrue, if◌then◌else◌}
 use Rattle.std.specs.Io.KnownBytes.{IsAtEnd}
 use Rattle.test_gen.specs.Generated.{generated}
@@ -12,18 +12,13 @@ use Rattle.mtrace_app.specs.declared.failure.Failure.{Failure}
 use Rattle.mtrace_app.specs.declared.failure.Failure.TheVariants.{Refused, Memory}
 use Rattle.mtrace_app.specs.declared.reading.ReadError.TheVariants.{TooLarge as PastEnd}
 use Rattle.mtrace_app.specs.declared.refusal.Refusal.{Refusal}
-use Rattle.mtrace_app.specs.declared.refusal.Refusal.TheVariants.{Words, NotBuilt, ReadFault, Input, TooLarge}
+use Rattle.mtrace_app.specs.declared.refusal.Refusal.TheVariants.{Words, ReadFault, Input, TooLarge}
 use Rattle.mtrace_app.specs.declared.refusal.Size.TheVariants.{Bytes, Runs, Values}
 use Rattle.mtrace_app.specs.Answers.{HasCause, IsCause, RefusesInput}
 use Rattle.mtrace_app.specs.Failures.{IfRefused}
 use Rattle.mtrace_app.specs.Inputs.{RecordsBy, reads}
 use Rattle.mtrace_app.specs.Outputs.{IsOfInput, IsOutputOf, OutputsBy, TakesBy}
 use Rattle.mtrace_app.specs.Outside.{Change, IsPastLimit, IsWithinLimit, WhereTold}
-
--- where the bytes are told, they are the ones that were read
-told_all : (old : Option (List ℕ)) (bytes : List ℕ) → IfSome old (λ left. bytes ≡ left) → (P : List ℕ → Type 0) → P bytes → IfSome old P
-told_all None bytes same P h = tt
-told_all (Some xs) bytes same P h = subst P same h
 
 -- what isn't past the limit is within it
 within_limit : (xs ys : List ℕ) → (IsPastLimit xs ys → ⊥) → IsWithinLimit xs ys
@@ -40,32 +35,34 @@ not_past bytes before now = where_told before now _ IsWithinLimit (λ xs ys h. w
 
 module _ (s : Settings) (command_reads : IsTrue (reads s.command)) (source : Change) where
   -- the bytes that were read are those of the input
-  pub of_input : {X : Type 0} (whole : X) (bytes : List ℕ) → IsAtEnd source.now → WhereTold source.before source.now (λ xs ys. IsErrOf (Ok whole) PastEnd ↔ IsPastLimit xs ys) → IfSome source.before (λ left. bytes ≡ left)
+  pub of_input : {X : Type 0} (whole : X) (bytes : List ℕ) → IsAtEnd source.now → WhereTold source.before source.now (λ xs ys. IsErrOf (Ok whole) PastEnd ↔ IsPastLimit xs ys) → IfSome source.before (λ left. bytes ≡ left) → length bytes ≤ 2 ^ 30
       → (P : List ℕ → Type 0) → P bytes → IsOfInput s source P
-  of_input whole bytes end within same P h =
-      subst (λ (b : Bool). TakesBy b source × IfSome (if b then source.before else Some []) P) (sym command_reads)
-      ((end, not_past whole source.before source.now within), told_all source.before bytes same P h)
+  of_input whole bytes end within same few P h = record {
+    taken = subst (λ (b : Bool). TakesBy b source) (sym command_reads) (end, not_past whole source.before source.now within);
+    bytes = bytes;
+    whole = subst (λ (b : Bool). IfSome (if b then source.before else Some []) (λ left. bytes ≡ left)) (sym command_reads) same;
+    few = few;
+    holds = h;
+  }
 
   -- the bytes that were read have no output
-  cause_of : {X : Type 0} (whole : X) (bytes : List ℕ) → IsAtEnd source.now → WhereTold source.before source.now (λ xs ys. IsErrOf (Ok whole) PastEnd ↔ IsPastLimit xs ys) → IfSome source.before (λ left. bytes ≡ left)
+  cause_of : {X : Type 0} (whole : X) (bytes : List ℕ) → IsAtEnd source.now → WhereTold source.before source.now (λ xs ys. IsErrOf (Ok whole) PastEnd ↔ IsPastLimit xs ys) → IfSome source.before (λ left. bytes ≡ left) → length bytes ≤ 2 ^ 30
       → (refusal : Refusal) → RefusesInput s bytes refusal → IsCause s source refusal
-  cause_of whole bytes end within same Words h = absurd h
-  cause_of whole bytes end within same ReadFault h = absurd h
-  cause_of whole bytes end within same NotBuilt h = inr (of_input whole bytes end within same (λ b. RefusesInput s b NotBuilt) h)
-  cause_of whole bytes end within same (Input fault) h = of_input whole bytes end within same (λ b. RefusesInput s b (Input fault)) h
-  cause_of whole bytes end within same (TooLarge Bytes) h = absurd h.3
-  cause_of whole bytes end within same (TooLarge (Runs n)) h = of_input whole bytes end within same (λ b. RefusesInput s b (TooLarge (Runs n))) h
-  cause_of whole bytes end within same (TooLarge (Values n)) h = of_input whole bytes end within same (λ b. RefusesInput s b (TooLarge (Values n))) h
+  cause_of whole bytes end within same few Words h = absurd h
+  cause_of whole bytes end within same few ReadFault h = absurd h
+  cause_of whole bytes end within same few (Input fault) h = of_input whole bytes end within same few (λ b. RefusesInput s b (Input fault)) h
+  cause_of whole bytes end within same few (TooLarge Bytes) h = absurd h.3
+  cause_of whole bytes end within same few (TooLarge (Runs n)) h = of_input whole bytes end within same few (λ b. RefusesInput s b (TooLarge (Runs n))) h
+  cause_of whole bytes end within same few (TooLarge (Values n)) h = of_input whole bytes end within same few (λ b. RefusesInput s b (TooLarge (Values n))) h
 
-  pub causes_of : {X : Type 0} (whole : X) (bytes : List ℕ) → IsAtEnd source.now → WhereTold source.before source.now (λ xs ys. IsErrOf (Ok whole) PastEnd ↔ IsPastLimit xs ys) → IfSome source.before (λ left. bytes ≡ left)
+  pub causes_of : {X : Type 0} (whole : X) (bytes : List ℕ) → IsAtEnd source.now → WhereTold source.before source.now (λ xs ys. IsErrOf (Ok whole) PastEnd ↔ IsPastLimit xs ys) → IfSome source.before (λ left. bytes ≡ left) → length bytes ≤ 2 ^ 30
       → (failure : Failure) → IfRefused (RefusesInput s bytes) failure → IfRefused (IsCause s source) failure
-  causes_of whole bytes end within same (Refused refusal) h = cause_of whole bytes end within same refusal h
-  causes_of whole bytes end within same Memory h = tt
+  causes_of whole bytes end within same few (Refused refusal) h = cause_of whole bytes end within same few refusal h
+  causes_of whole bytes end within same few Memory h = tt
 
 -- the cause of a command's refusal is that of the words
 cause_by_words : (words : List (List ℕ)) (s : Settings) (source : Change) → HasSettings words s → (refusal : Refusal) → IsCause s source refusal → HasCause words source refusal
 cause_by_words words s source settings Words h = absurd h
-cause_by_words words s source settings NotBuilt h = (s, settings, h)
 cause_by_words words s source settings ReadFault h = (s, settings, h)
 cause_by_words words s source settings (Input fault) h = (s, settings, h)
 cause_by_words words s source settings (TooLarge size) h = (s, settings, h)
@@ -78,12 +75,17 @@ causes_by_words words s source settings Memory h = tt
 
 module _ (s : Settings) (source : Change) (takes_nothing : reads s.command ≡ false) (same : source.now ≡ source.before) where
   pub of_nothing : (P : List ℕ → Type 0) → P [] → IsOfInput s source P
-  of_nothing P h = subst (λ (b : Bool). TakesBy b source × IfSome (if b then source.before else Some []) P) (sym takes_nothing) (same, h)
+  of_nothing P h = record {
+    taken = subst (λ (b : Bool). TakesBy b source) (sym takes_nothing) same;
+    bytes = [];
+    whole = subst (λ (b : Bool). IfSome (if b then source.before else Some []) (λ left. [] ≡ left)) (sym takes_nothing) refl;
+    few = omega arith;
+    holds = h;
+  }
 
   cause_of_nothing : (refusal : Refusal) → RefusesInput s [] refusal → IsCause s source refusal
   cause_of_nothing Words h = absurd h
   cause_of_nothing ReadFault h = absurd h
-  cause_of_nothing NotBuilt h = inr (of_nothing (λ b. RefusesInput s b NotBuilt) h)
   cause_of_nothing (Input fault) h = of_nothing (λ b. RefusesInput s b (Input fault)) h
   cause_of_nothing (TooLarge Bytes) h = absurd h.3
   cause_of_nothing (TooLarge (Runs n)) h = of_nothing (λ b. RefusesInput s b (TooLarge (Runs n))) h

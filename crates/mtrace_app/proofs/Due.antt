@@ -1,44 +1,38 @@
 -- Where no fault comes up, a call ends with the status that is due, or for want of memory.
-use Rattle.std.proofs.Common.{◌≡◌, ◌⊎◌, ◌≤◌, ◌^◌, ℕ, List, [], Bool, true, false, map, length, refl, sym, ap, subst, arith, inl, inr}
+use Rattle.std.proofs.Common.{◌≡◌, ◌⊎◌, ◌≤◌, ◌^◌, ℕ, List, [], Bool, true, false, length, refl, sym, ap, subst, arith, inl, inr}
 use Rattle.std.specs.Prelude.{Option, Some, None, IfSome, IsTrue, if◌then◌else◌}
-use Rattle.tally.specs.declared.outcome.Outcome.{Outcome}
-use Rattle.tally.specs.Tallies.{IsTally}
-use Rattle.tally.proofs.OneTally.{one_tally}
 use Rattle.test_lang.specs.Program.{Program}
 use Rattle.test_lang.specs.Values.{load_count}
-use Rattle.signature_plan.specs.Outcomes.{outcome_of}
-use Rattle.verdict_report.specs.Lines.{signatures}
 use Rattle.command_line.specs.declared.meaning.Settings.{Settings}
 use Rattle.command_line.specs.Settings.{HasSettings}
 use Rattle.mtrace_app.specs.declared.refusal.InputFault.{InputFault}
 use Rattle.mtrace_app.specs.declared.refusal.Refusal.{Refusal}
-use Rattle.mtrace_app.specs.declared.refusal.Refusal.TheVariants.{Words, NotBuilt, ReadFault, Input, TooLarge}
+use Rattle.mtrace_app.specs.declared.refusal.Refusal.TheVariants.{Words, ReadFault, Input, TooLarge}
 use Rattle.mtrace_app.specs.declared.refusal.Size.{Size}
 use Rattle.mtrace_app.specs.declared.refusal.Size.TheVariants.{Bytes, Runs, Values}
 use Rattle.mtrace_app.specs.declared.status.Status.{Status}
-use Rattle.mtrace_app.specs.declared.status.Status.TheVariants.{Clean, Found, Input as InputStatus, TooLarge as TooLargeStatus, NotBuilt as NotBuiltStatus, Memory}
+use Rattle.mtrace_app.specs.declared.status.Status.TheVariants.{Clean, Found, Input as InputStatus, TooLarge as TooLargeStatus, Memory}
 use Rattle.mtrace_app.specs.Answers.{IsAnswered, refused, written, cut_off, no_memory, HasCause, IsCause, IsDue, IsTooLarge, RefusesInput}
 use Rattle.mtrace_app.specs.Inputs.{HasRunCount, IsRecorded, IsRefusedInput, reads}
 use Rattle.mtrace_app.specs.Limits.{FitLimits, PassLimit}
-use Rattle.mtrace_app.specs.Outputs.{IsOfInput, IsOutputOf, IsUnbuiltCommand, IsUnbuiltInput, input_of, is_built}
+use Rattle.mtrace_app.specs.Outputs.{IsOfInput, IsOutputOf, input_of}
 use Rattle.mtrace_app.specs.Outside.{Change, HadFault, IsPastLimit, IsRestOf, WhereTold}
 use Rattle.mtrace_app.specs.Refusals.{status_of}
 use Rattle.mtrace_app.specs.Status.{EndsWith, output_status}
 use Rattle.mtrace_app.proofs.OneSettings.{one_settings}
-use Rattle.mtrace_app.proofs.ByCommand.{not_both_by, one_meaning_by, records_built, refuses_built, report_in_output}
+use Rattle.mtrace_app.proofs.ByCommand.{not_both_by, one_meaning_by}
 
 -- What an answer says of the bytes that were taken, where reading them had no fault and they are no more than an input may have.
 pub data Says (s : Settings) (bytes : List ℕ) (sink : Change) (status : Status) : Type 0 where
   for_input : (refusal : Refusal) → RefusesInput s bytes refusal → status ≡ status_of refusal → Says s bytes sink status
-  for_command : IsUnbuiltCommand s → Says s bytes sink status
   has_output : (text : List ℕ) (is_clean : Bool) → IsOutputOf s bytes text is_clean → (status ≡ output_status is_clean) ⊎ HadFault sink → Says s bytes sink status
   had_no_memory : status ≡ Memory → Says s bytes sink status
 
 -- ---- from the table
 
 module _ (s : Settings) (bytes : List ℕ) (source sink : Change) (status : Status) (few : length bytes ≤ 2 ^ 30) (quiet : ¬ HadFault source) (taken : IsRestOf source.before source.now) where
-  of_bytes : (input : Option (List ℕ)) (P : List ℕ → Type 0) → input ≡ Some bytes → IfSome input P → P bytes
-  of_bytes input P e h = subst (λ (i : Option (List ℕ)). IfSome i P) e h
+  of_bytes : (P : List ℕ → Type 0) → input_of s source.before ≡ Some bytes → IsOfInput s source P → P bytes
+  of_bytes P e h = subst P (subst (λ (i : Option (List ℕ)). IfSome i (λ left. h.bytes ≡ left)) e h.whole) h.holds
 
   -- no more was taken than an input may have
   not_past : (before now : Option (List ℕ)) → before ≡ Some bytes → IsRestOf before now → WhereTold before now IsPastLimit → ⊥
@@ -52,14 +46,10 @@ module _ (s : Settings) (bytes : List ℕ) (source sink : Change) (status : Stat
   says_refused : input_of s source.before ≡ Some bytes → (refusal : Refusal) → IsCause s source refusal → status ≡ status_of refusal → Says s bytes sink status
   says_refused e Words h is = absurd h
   says_refused e ReadFault h is = absurd (quiet h.1)
-  says_refused e NotBuilt h is = elim h [
-    | inl c ↦ for_command c.0
-    | inr i ↦ for_input NotBuilt (of_bytes (input_of s source.before) (λ b. IsUnbuiltInput s b) e i.1) is
-  ]
-  says_refused e (Input fault) h is = for_input (Input fault) (of_bytes (input_of s source.before) (λ b. RefusesInput s b (Input fault)) e h.1) is
+  says_refused e (Input fault) h is = for_input (Input fault) (of_bytes (λ b. RefusesInput s b (Input fault)) e h) is
   says_refused e (TooLarge Bytes) h is = absurd (not_past source.before source.now (before_is e h.0) taken h.1)
-  says_refused e (TooLarge (Runs n)) h is = for_input (TooLarge (Runs n)) (of_bytes (input_of s source.before) (λ b. RefusesInput s b (TooLarge (Runs n))) e h.1) is
-  says_refused e (TooLarge (Values n)) h is = for_input (TooLarge (Values n)) (of_bytes (input_of s source.before) (λ b. RefusesInput s b (TooLarge (Values n))) e h.1) is
+  says_refused e (TooLarge (Runs n)) h is = for_input (TooLarge (Runs n)) (of_bytes (λ b. RefusesInput s b (TooLarge (Runs n))) e h) is
+  says_refused e (TooLarge (Values n)) h is = for_input (TooLarge (Values n)) (of_bytes (λ b. RefusesInput s b (TooLarge (Values n))) e h) is
 
   module _ (words : List (List ℕ)) (settings : HasSettings words s) (e : input_of s source.before ≡ Some bytes) where
     cause_here : (t : Settings) → HasSettings words t → (refusal : Refusal) → IsCause t source refusal → IsCause s source refusal
@@ -67,7 +57,6 @@ module _ (s : Settings) (bytes : List ℕ) (source sink : Change) (status : Stat
 
     says_cause : (refusal : Refusal) → HasCause words source refusal → status ≡ status_of refusal → Says s bytes sink status
     says_cause Words h is = absurd (h s settings)
-    says_cause NotBuilt h is = says_refused e NotBuilt (cause_here h.0 h.1 NotBuilt h.2) is
     says_cause ReadFault h is = says_refused e ReadFault (cause_here h.0 h.1 ReadFault h.2) is
     says_cause (Input fault) h is = says_refused e (Input fault) (cause_here h.0 h.1 (Input fault) h.2) is
     says_cause (TooLarge size) h is = says_refused e (TooLarge size) (cause_here h.0 h.1 (TooLarge size) h.2) is
@@ -75,7 +64,7 @@ module _ (s : Settings) (bytes : List ℕ) (source sink : Change) (status : Stat
     output_here : (text : List ℕ) (is_clean : Bool) (t : Settings) → HasSettings words t → IsOfInput t source (λ b. IsOutputOf t b text is_clean) → IsOutputOf s bytes text is_clean
     output_here text is_clean t there h =
         let here = subst (λ (x : Settings). IsOfInput x source (λ b. IsOutputOf x b text is_clean)) (one_settings words t s there settings) h in
-        of_bytes (input_of s source.before) (λ b. IsOutputOf s b text is_clean) e here.1
+        of_bytes (λ b. IsOutputOf s b text is_clean) e here
 
     pub says : (line : List ℕ) → IsAnswered words source sink status line → Says s bytes sink status
     says line (refused refusal cause is kept told) = says_cause refusal cause is
@@ -89,7 +78,7 @@ module _ (s : Settings) (bytes : List ℕ) where
   within_as : (p q : Program) (runs others : List (List ℕ)) → IsRecorded s bytes p runs → IsRecorded s bytes q others → FitLimits (length runs) (load_count p) → FitLimits (length others) (load_count q)
   within_as p q runs others h k within =
       let same = one_meaning_by s.command s bytes p q runs others h k in
-      subst (λ (rs : List (List ℕ)). FitLimits (length rs) (load_count q)) same.1 (subst (λ (t : Program). FitLimits (length runs) (load_count t)) same.0 within)
+      subst (λ (n : ℕ). FitLimits n (load_count q)) same.same_count (subst (λ (t : Program). FitLimits (length runs) (load_count t)) same.same_test within)
 
   fit_as : (p q : Program) (runs : List (List ℕ)) (count : ℕ) → IsRecorded s bytes p runs → HasRunCount s bytes q count → FitLimits (length runs) (load_count p) → FitLimits count (load_count q)
   fit_as p q runs count h k within = subst (λ (n : ℕ). FitLimits n (load_count q)) (sym k.2) (within_as p q runs k.0 h k.1 within)
@@ -106,68 +95,37 @@ module _ (s : Settings) (bytes : List ℕ) where
       let within = subst (λ (n : ℕ). FitLimits n (load_count p)) h.2 fit in
       past large.1 (load_count large.0) size large.3 (fit_as p large.0 h.0 large.1 h.1 k within)
 
-  not_unbuilt : (text : List ℕ) (is_clean : Bool) → IsOutputOf s bytes text is_clean → IsUnbuiltInput s bytes → ⊥
-  not_unbuilt text is_clean h u =
-      let same = one_meaning_by s.command s bytes u.test h.test u.runs h.runs u.recorded h.recorded in
-      let report = report_in_output s.command s h.test h.runs text is_clean u.reported h.output in
-      let counts =
-      subst (λ (rs : List (List ℕ)). IsTally (map (outcome_of h.test) rs) u.tally) same.1
-      (subst (λ (t : Program). IsTally (map (outcome_of t) u.runs) u.tally) same.0 u.counts) in
-      let tallies : u.tally ≡ report.findings.tally = one_tally (map (outcome_of h.test) h.runs) u.tally report.findings.tally counts report.found.counts in
-      let several : 2 ≤ length (signatures report.findings.tally) = subst (λ (t : List (Outcome × ℕ)). 2 ≤ length (signatures t)) tallies u.several in
-      elim report.found.works.alone [ inl e ↦ u.chunks e | inr few ↦ omega (arith, several, few) ]
-
-  -- a command that is built isn't one that isn't
-  not_unbuilt_command : IsUnbuiltCommand s → IsTrue (is_built s.command) → ⊥
-  not_unbuilt_command c built = cc
-
   module _ (sink : Change) (status : Status) where
     due_refused : Says s bytes sink status → (fault : InputFault) → IsRefusedInput s bytes fault → EndsWith status InputStatus
     due_refused (for_input (Input other) h is) fault r = inl is
     due_refused (for_input (TooLarge size) h is) fault r = absurd (not_both_by s.command s bytes h.0 h.2.0 fault h.2.1 r)
-    due_refused (for_input NotBuilt h is) fault r = absurd (not_both_by s.command s bytes h.test h.runs fault h.recorded r)
     due_refused (for_input Words h is) fault r = absurd h
     due_refused (for_input ReadFault h is) fault r = absurd h
-    due_refused (for_command c) fault r = absurd (not_unbuilt_command c (refuses_built s.command s bytes fault r))
     due_refused (has_output text is_clean h is) fault r = absurd (not_both_by s.command s bytes h.test h.runs fault h.recorded r)
     due_refused (had_no_memory is) fault r = inr is
 
     due_large : Says s bytes sink status → (p : Program) (count : ℕ) → HasRunCount s bytes p count → ¬ FitLimits count (load_count p) → EndsWith status TooLargeStatus
     due_large (for_input (Input other) h is) p count k many = absurd (not_both_by s.command s bytes p k.0 other k.1 h)
     due_large (for_input (TooLarge size) h is) p count k many = inl is
-    due_large (for_input NotBuilt h is) p count k many = absurd (many (fit_as h.test p h.runs count h.recorded k h.limits))
     due_large (for_input Words h is) p count k many = absurd h
     due_large (for_input ReadFault h is) p count k many = absurd h
-    due_large (for_command c) p count k many = absurd (not_unbuilt_command c (records_built s.command s bytes p k.0 k.1))
     due_large (has_output text is_clean h is) p count k many = absurd (many (fit_as h.test p h.runs count h.recorded k h.limits))
     due_large (had_no_memory is) p count k many = inr is
-
-    due_unbuilt : Says s bytes sink status → IsUnbuiltInput s bytes → EndsWith status NotBuiltStatus
-    due_unbuilt (for_input (Input other) h is) u = absurd (not_both_by s.command s bytes u.test u.runs other u.recorded h)
-    due_unbuilt (for_input (TooLarge size) h is) u = absurd (not_large size h u.test (length u.runs) (u.runs, u.recorded, refl) u.limits)
-    due_unbuilt (for_input NotBuilt h is) u = inl is
-    due_unbuilt (for_input Words h is) u = absurd h
-    due_unbuilt (for_input ReadFault h is) u = absurd h
-    due_unbuilt (for_command c) u = absurd (not_unbuilt_command c (records_built s.command s bytes u.test u.runs u.recorded))
-    due_unbuilt (has_output text is_clean h is) u = absurd (not_unbuilt text is_clean h u)
-    due_unbuilt (had_no_memory is) u = inr is
 
     clean_or_found : (is_clean : Bool) → status ≡ output_status is_clean → (status ≡ Clean) ⊎ EndsWith status Found
     clean_or_found true is = inl is
     clean_or_found false is = inr (inl is)
 
-    due_output : Says s bytes sink status → (p : Program) (count : ℕ) → HasRunCount s bytes p count → FitLimits count (load_count p) → ¬ IsUnbuiltInput s bytes → ¬ HadFault sink → (status ≡ Clean) ⊎ EndsWith status Found
-    due_output (for_input (Input other) h is) p count k fit built quiet = absurd (not_both_by s.command s bytes p k.0 other k.1 h)
-    due_output (for_input (TooLarge size) h is) p count k fit built quiet = absurd (not_large size h p count k fit)
-    due_output (for_input NotBuilt h is) p count k fit built quiet = absurd (built h)
-    due_output (for_input Words h is) p count k fit built quiet = absurd h
-    due_output (for_input ReadFault h is) p count k fit built quiet = absurd h
-    due_output (for_command c) p count k fit built quiet = absurd (not_unbuilt_command c (records_built s.command s bytes p k.0 k.1))
-    due_output (has_output text is_clean h is) p count k fit built quiet = elim is [ inl e ↦ clean_or_found is_clean e | inr fault ↦ absurd (quiet fault) ]
-    due_output (had_no_memory is) p count k fit built quiet = inr (inr is)
+    due_output : Says s bytes sink status → (p : Program) (count : ℕ) → HasRunCount s bytes p count → FitLimits count (load_count p) → ¬ HadFault sink → (status ≡ Clean) ⊎ EndsWith status Found
+    due_output (for_input (Input other) h is) p count k fit quiet = absurd (not_both_by s.command s bytes p k.0 other k.1 h)
+    due_output (for_input (TooLarge size) h is) p count k fit quiet = absurd (not_large size h p count k fit)
+    due_output (for_input Words h is) p count k fit quiet = absurd h
+    due_output (for_input ReadFault h is) p count k fit quiet = absurd h
+    due_output (has_output text is_clean h is) p count k fit quiet = elim is [ inl e ↦ clean_or_found is_clean e | inr fault ↦ absurd (quiet fault) ]
+    due_output (had_no_memory is) p count k fit quiet = inr (inr is)
 
     due : Says s bytes sink status → IsDue s bytes sink status
-    due h = record { refused = due_refused h; too_large = due_large h; not_built = due_unbuilt h; output = due_output h }
+    due h = record { refused = due_refused h; too_large = due_large h; output = due_output h }
 
 -- each input is answered as is due
 due_in : (words : List (List ℕ)) (s : Settings) (source sink : Change) (status : Status) (line : List ℕ) → HasSettings words s → IsRestOf source.before source.now → ¬ HadFault source → IsAnswered words source sink status line

@@ -1,12 +1,11 @@
 -- A test that is generated is within the limits of tests.
-use Rattle.std.proofs.Common.{◌≡◌, ◌∙◌, ℕ, suc, ◌+◌, ◌*◌, ◌%◌, ◌<◌, ◌≤◌, List, [], ◌∷◌, ◌++◌, map, length, Bool, true, false, cond, All, ap, refl, sym, arith}
-use Rattle.std.specs.Prelude.{IsTrue, nat_lt, sum_by}
+use Rattle.std.proofs.Common.{◌≡◌, ◌∙◌, ℕ, suc, ◌+◌, ◌*◌, ◌<◌, ◌≤◌, List, [], ◌∷◌, map, length, Bool, true, false, cond, All, ap, refl, arith}
+use Rattle.std.specs.Prelude.{IsTrue, sum_by}
 use Rattle.std.specs.List.{range_with_len}
 use Rattle.std.proofs.Math.Nat.{mod-lt}
 use Rattle.std.proofs.lemmas.List.Elements.{All-append, All-cons, All-nil}
 use Rattle.std.proofs.lemmas.List.FromFn.{length-map-range_with_len, length-range_with_len}
 use Rattle.std.proofs.lemmas.List.Sums.{sum_by-cons}
-use Rattle.mt_base.specs.Words.{word}
 use Rattle.test_lang.specs.declared.op.Op.{Op}
 use Rattle.test_lang.specs.declared.op.Op.TheVariants.{Load, Store, Fence}
 use Rattle.test_lang.specs.declared.op.Action.{Action}
@@ -14,7 +13,7 @@ use Rattle.test_lang.specs.Actions.{action_of, allows, op_of}
 use Rattle.test_lang.specs.Program.{HasWordBelow, IsWithinLimits, actions_from, nodes_from, op_count}
 use Rattle.test_lang.proofs.TextLemmas.Bodies.{op_count-sum_by}
 use Rattle.test_gen.specs.declared.settings.GenSettings.{GenSettings}
-use Rattle.test_gen.specs.Generated.{first_ops, first_threads, generated, op_at}
+use Rattle.test_gen.specs.Generated.{first_ops, generated, op_at}
 use Rattle.command_line.specs.Settings.{IsGenWithinRanges}
 
 -- what holds of each value of a function holds of all elements of a list that are mapped by it, and then by another

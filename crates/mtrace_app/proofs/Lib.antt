@@ -4,8 +4,7 @@ pub mod NextPlay
 pub mod PlaysSoFar
 pub mod InputsPlayed
 pub mod InputsRead
-pub mod Cycles
-pub mod JudgedSoFar
+pub mod ReportedSignatures
 pub mod Counts
 pub mod OneMeaning
 pub mod TestAlone
@@ -17,9 +16,13 @@ pub mod OneOutcome
 pub mod OnePlay
 pub mod SomeMeaning
 pub mod SomePlay
+pub mod Races
+pub mod RacedSoFar
+pub mod RacedInputs
 pub mod ByCommand
 pub mod OneSettings
 pub mod Causes
 pub mod NoAlarm
+pub mod RacesChecked
 pub mod Answered
 pub mod Due

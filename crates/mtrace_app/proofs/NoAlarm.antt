@@ -1,16 +1,18 @@
 -- A machine without a fault gives nothing that its own memory model, or a weaker one, forbids.
-use Rattle.std.proofs.Common.{◌≡◌, ◌≢◌, ◌∙◌, ℕ, suc, List, [], ◌∷◌, map, Bool, true, false, refl, sym, ap, subst, not, ◌&&◌}
-use Rattle.std.specs.Prelude.{Option, Some, None, IfSome, IsTrue, ◌||◌, slice_get}
+use Rattle.std.proofs.Common.{◌≡◌, ◌≢◌, ◌∙◌, ℕ, List, [], ◌∷◌, map, Bool, true, false, refl, sym, ap, subst, not, ◌&&◌}
+use Rattle.std.specs.Prelude.{Option, Some, None, IsTrue, ◌||◌}
 use Rattle.std.specs.List.{AllByRecursion}
 use Rattle.std.specs.Option.{option_map}
 use Rattle.std.specs.Map.{keys_of}
 use Rattle.tally.specs.declared.outcome.Outcome.{Outcome}
 use Rattle.tally.specs.declared.outcome.Outcome.TheVariants.{Inside, Outside}
 use Rattle.test_lang.specs.declared.op.MemModel.{MemModel}
+use Rattle.test_lang.specs.declared.op.MemModel.TheVariants as models
 use Rattle.test_lang.specs.declared.step.Step.{Step}
 use Rattle.test_lang.specs.declared.target.Fault.{Fault}
 use Rattle.test_lang.specs.declared.target.Fault.TheVariants as faults
 use Rattle.test_lang.specs.declared.target.Target.{Target}
+use Rattle.test_lang.specs.declared.target.Target.TheVariants.{Sc}
 use Rattle.test_lang.specs.Edges.{IsRunAcyclic, IsRunOrder}
 use Rattle.test_lang.specs.Models.{is_no_stronger}
 use Rattle.test_lang.specs.Program.{Program, IsWithinLimits}
@@ -19,32 +21,36 @@ use Rattle.test_lang.specs.Signatures.{Means}
 use Rattle.test_lang.specs.Play.Machines.{model_of}
 use Rattle.test_lang.specs.Play.Plays.{IsDonePlay, effects_of, run_of}
 use Rattle.run_text.specs.Items.{AreLinesOf}
+use Rattle.shared_words.specs.Interleavings.{IsInterleaved}
 use Rattle.sim_core.specs.Drawn.{AreDrawnRuns}
 use Rattle.test_gen.specs.Generated.{generated}
 use Rattle.signature_plan.specs.Outcomes.{outcome_by}
 use Rattle.verdict_report.specs.declared.report.Judged.{Judged}
 use Rattle.verdict_report.specs.declared.report.Judged.TheVariants.{Ok, Cycle}
 use Rattle.verdict_report.specs.Lines.{has_cycle, has_outside, is_ok, signatures}
+use Rattle.chunk_pool.specs.Verdicts.{IsVerdict}
 use Rattle.command_line.specs.declared.meaning.Command.{Command}
-use Rattle.command_line.specs.declared.meaning.Command.TheVariants.{Replay, Run, Demo}
+use Rattle.command_line.specs.declared.meaning.Command.TheVariants.{Replay, Run, Race, Demo}
 use Rattle.command_line.specs.declared.meaning.Settings.{Settings}
 use Rattle.command_line.specs.Settings.{HasSettings}
 use Rattle.mtrace_app.specs.declared.refusal.Refusal.{Refusal}
-use Rattle.mtrace_app.specs.declared.refusal.Refusal.TheVariants.{Words, NotBuilt, ReadFault, Input, TooLarge}
+use Rattle.mtrace_app.specs.declared.refusal.Refusal.TheVariants.{Words, ReadFault, Input, TooLarge}
 use Rattle.mtrace_app.specs.declared.status.Status.{Status}
 use Rattle.mtrace_app.specs.declared.status.Status.TheVariants.{Found}
 use Rattle.mtrace_app.specs.declared.form.Form.{Form}
-use Rattle.mtrace_app.specs.Alarms.{IsAlarmFree, plays}
+use Rattle.mtrace_app.specs.declared.form.Form.TheVariants.{Whole}
+use Rattle.mtrace_app.specs.Alarms.{IsAlarmFree, played, raced, plays}
 use Rattle.mtrace_app.specs.Answers.{IsAnswered, refused, written, cut_off, no_memory}
 use Rattle.mtrace_app.specs.Inputs.{ArePlayedRuns, AreRunsDrawn, IsLineOfPlay, RecordsBy}
-use Rattle.mtrace_app.specs.Outputs.{IsOfInput, IsOutputOf, form_of, input_of, reports}
+use Rattle.mtrace_app.specs.Outputs.{IsOfInput, IsOutputOf, OutputsBy, form_of, reports}
 use Rattle.mtrace_app.specs.Outside.{Change}
 use Rattle.mtrace_app.specs.Refusals.{status_of}
 use Rattle.mtrace_app.specs.Status.{output_status}
-use Rattle.mtrace_app.specs.Report.{AreJudged, IsReportIn, IsVerdict}
+use Rattle.mtrace_app.specs.Report.{AreJudged, IsReportIn}
 use Rattle.mtrace_app.proofs.ByCommand.{report_in_output}
 use Rattle.mtrace_app.proofs.GeneratedTests.{generated_limits}
 use Rattle.mtrace_app.proofs.OneSettings.{one_settings}
+use Rattle.mtrace_app.proofs.Races.{all_by_reads, all_more}
 use Rattle.mtrace_app.proofs.Ranges.{ranges_of_words}
 use Rattle.mtrace_app.proofs.Meanings.{AreOutcomes, means_by, tallied_outcomes}
 
@@ -95,11 +101,6 @@ module _ (model : MemModel) (p : Program) where
 
 -- ---- plays without a fault are allowed
 
--- what each read of a list gives is each of its elements
-all_by_reads : {X : Type 0} (P : X → Type 0) (xs : List X) → ((k : ℕ) (x : X) → slice_get xs k ≡ Some x → P x) → AllByRecursion P xs
-all_by_reads P [] each = tt
-all_by_reads P (x ∷ xs) each = (each 0 x refl, all_by_reads P xs (λ k. each (suc k)))
-
 -- what the law on plays says
 pub record IsLaw : Type 0 where
   pub inside : (target : Target) (p : Program) (steps : List Step) → IsWithinLimits p → IsDonePlay target faults.None p steps → IsInside p (run_of target faults.None p steps)
@@ -132,11 +133,11 @@ plays_report c h = absurd cc
 
 module _ (law : IsLaw) (s : Settings) (no_fault : s.fault ≡ faults.None) (weaker : IsTrue (is_no_stronger s.model (model_of s.target))) where
   allowed_replayed : (bytes : List ℕ) (p : Program) (runs : List (List ℕ)) → ArePlayedRuns s bytes p runs → AllByRecursion (IsAllowed s.model p) runs
-  allowed_replayed bytes p runs played =
-      let each = subst (λ (f : Fault). AreLinesOf (IsLineOfPlay (record { target = s.target; fault = f; test = p })) played.schedules played.text.text.lines) no_fault played.text.text.each in
-      let all = allowed_plays law s.target s.model p played.text.test.limits weaker played.schedules played.text.text.lines each in
-      let same : map (run_of s.target faults.None p) played.schedules ≡ runs =
-      ap (λ (f : Fault). map (run_of s.target f p) played.schedules) (sym no_fault) ∙ sym played.played in
+  allowed_replayed bytes p runs replayed =
+      let each = subst (λ (f : Fault). AreLinesOf (IsLineOfPlay (record { target = s.target; fault = f; test = p })) replayed.schedules replayed.text.text.lines) no_fault replayed.text.text.each in
+      let all = allowed_plays law s.target s.model p replayed.text.test.limits weaker replayed.schedules replayed.text.text.lines each in
+      let same : map (run_of s.target faults.None p) replayed.schedules ≡ runs =
+      ap (λ (f : Fault). map (run_of s.target f p) replayed.schedules) (sym no_fault) ∙ sym replayed.played in
       subst (AllByRecursion (IsAllowed s.model p)) same all
 
   allowed_of_seed : (p : Program) (runs : List (List ℕ)) → IsWithinLimits p → AreRunsDrawn s p runs → AllByRecursion (IsAllowed s.model p) runs
@@ -145,22 +146,40 @@ module _ (law : IsLaw) (s : Settings) (no_fault : s.fault ≡ faults.None) (weak
       (subst (λ (f : Fault). AreDrawnRuns (record { target = s.target; fault = f; test = p }) s.gen_settings.seed s.runs runs) no_fault drawn)
 
   allowed_by : (c : Command) (bytes : List ℕ) (p : Program) (runs : List (List ℕ)) → IsTrue (plays c) → IsWithinLimits (generated s.gen_settings) → RecordsBy c s bytes p runs → AllByRecursion (IsAllowed s.model p) runs
-  allowed_by Replay bytes p runs played limits h = allowed_replayed bytes p runs h
-  allowed_by Run bytes p runs played limits h = allowed_of_seed p runs h.0.limits h.1
-  allowed_by Demo bytes p runs played limits h = allowed_of_seed p runs (subst IsWithinLimits (sym h.0) limits) h.1
-  allowed_by c bytes p runs played limits h = absurd cc
+  allowed_by Replay bytes p runs plays_it limits h = allowed_replayed bytes p runs h
+  allowed_by Run bytes p runs plays_it limits h = allowed_of_seed p runs h.0.limits h.1
+  allowed_by Demo bytes p runs plays_it limits h = allowed_of_seed p runs (subst IsWithinLimits (sym h.0) limits) h.1
+  allowed_by c bytes p runs plays_it limits h = absurd cc
+
+no_stronger_than_sc : (model : MemModel) → IsTrue (is_no_stronger model (model_of Sc))
+no_stronger_than_sc models.Sc = refl
+no_stronger_than_sc models.Tso = refl
+no_stronger_than_sc models.Pso = refl
+no_stronger_than_sc models.Weak = refl
+
+-- runs of races are allowed by every model
+pub allowed_races : (law : IsLaw) (model : MemModel) (p : Program) (runs : List (List ℕ)) → IsWithinLimits p → AllByRecursion (IsInterleaved p) runs → AllByRecursion (IsAllowed model p) runs
+allowed_races law model p runs limits each =
+    all_more (IsInterleaved p) (IsAllowed model p) runs
+    (λ run is. subst (IsAllowed model p) is.gives (allowed_play law Sc model p limits (no_stronger_than_sc model) is.steps is.is_done_play)) each
+
+raced_clean : (law : IsLaw) (s : Settings) (c : Command) (bytes : List ℕ) (p : Program) (runs : List (List ℕ)) (text : List ℕ) (is_clean : Bool) → c ≡ Race → RecordsBy c s bytes p runs → OutputsBy c s p runs text is_clean → is_clean ≡ true
+raced_clean law s c bytes p runs text is_clean e recorded output =
+    let races = subst (λ (d : Command). RecordsBy d s bytes p runs) e recorded in
+    let written = subst (λ (d : Command). OutputsBy d s p runs text is_clean) e output in
+    clean_report s.model p Whole s.chunk runs written.report is_clean (allowed_races law s.model p runs races.0.limits races.1.each) written.reported
 
 pub no_alarm : (law : IsLaw) (words : List (List ℕ)) (s : Settings) (bytes text : List ℕ) (is_clean : Bool) → HasSettings words s → IsAlarmFree s → IsOutputOf s bytes text is_clean → is_clean ≡ true
-no_alarm law words s bytes text is_clean settings free h =
+no_alarm law words s bytes text is_clean settings (played plays_it no_fault model) h =
     let limits = generated_limits s.gen_settings (ranges_of_words words s settings) settings.consistent.operations in
-    clean_report s.model h.test (form_of s.command) s.chunk h.runs text is_clean (allowed_by law s free.no_fault free.model s.command bytes h.test h.runs free.played limits h.recorded)
-    (report_in_output s.command s h.test h.runs text is_clean (plays_report s.command free.played) h.output)
+    clean_report s.model h.test (form_of s.command) s.chunk h.runs text is_clean (allowed_by law s no_fault model s.command bytes h.test h.runs plays_it limits h.recorded)
+    (report_in_output s.command s h.test h.runs text is_clean (plays_report s.command plays_it) h.output)
+no_alarm law words s bytes text is_clean settings (raced races) h = raced_clean law s s.command bytes h.test h.runs text is_clean races h.recorded h.output
 
 -- ---- no call is answered by a finding
 
 refusal_is_no_finding : (refusal : Refusal) → Found ≡ status_of refusal → ⊥
 refusal_is_no_finding Words e = cc
-refusal_is_no_finding NotBuilt e = cc
 refusal_is_no_finding ReadFault e = cc
 refusal_is_no_finding (Input fault) e = cc
 refusal_is_no_finding (TooLarge size) e = cc
@@ -169,19 +188,14 @@ clean_is_no_finding : (is_clean : Bool) → is_clean ≡ true → Found ≡ outp
 clean_is_no_finding true e found = cc
 clean_is_no_finding false e found = cc
 
-module _ (words : List (List ℕ)) (s : Settings) (source sink : Change) (line bytes : List ℕ) (settings : HasSettings words s) (clean : (bytes text : List ℕ) (is_clean : Bool) → IsOutputOf s bytes text is_clean → is_clean ≡ true) (e : input_of s source.before ≡ Some bytes) where
-  output_of : (t : Settings) (text : List ℕ) (is_clean : Bool) → HasSettings words t → IsOfInput t source (λ b. IsOutputOf t b text is_clean) → IsOutputOf s bytes text is_clean
-  output_of t text is_clean there h =
-      let here = subst (λ (x : Settings). IsOfInput x source (λ b. IsOutputOf x b text is_clean)) (one_settings words t s there settings) h in
-      subst (λ (i : Option (List ℕ)). IfSome i (λ b. IsOutputOf s b text is_clean)) e here.1
+module _ (words : List (List ℕ)) (s : Settings) (source sink : Change) (status : Status) (line : List ℕ) (settings : HasSettings words s) (clean : (bytes text : List ℕ) (is_clean : Bool) → IsOutputOf s bytes text is_clean → is_clean ≡ true) where
+  -- whichever bytes were taken
+  clean_output : (t : Settings) (text : List ℕ) (is_clean : Bool) → HasSettings words t → IsOfInput t source (λ b. IsOutputOf t b text is_clean) → is_clean ≡ true
+  clean_output t text is_clean there h =
+      clean h.bytes text is_clean (subst (λ (x : Settings). IsOutputOf x h.bytes text is_clean) (one_settings words t s there settings) h.holds)
 
-  never_found : (status : Status) → IsAnswered words source sink status line → status ≡ Found → ⊥
-  never_found status (refused refusal cause is kept told) found = refusal_is_no_finding refusal (sym found ∙ is)
-  never_found status (written text is_clean h is appended told) found = clean_is_no_finding is_clean (clean bytes text is_clean (output_of h.0 text is_clean h.1 h.2)) (sym found ∙ is)
-  never_found status (cut_off text is_clean h fault is appended told) found = let both = sym found ∙ is in cc
-  never_found status (no_memory is kept told) found = let both = sym found ∙ is in cc
-
-pub not_found : (words : List (List ℕ)) (s : Settings) (source sink : Change) (status : Status) (line : List ℕ) → HasSettings words s → ((bytes text : List ℕ) (is_clean : Bool) → IsOutputOf s bytes text is_clean → is_clean ≡ true) → IsAnswered words source sink status line → (input : Option (List ℕ)) → input_of s source.before ≡ input
-    → IfSome input (λ bytes. status ≢ Found)
-not_found words s source sink status line settings clean h None e = tt
-not_found words s source sink status line settings clean h (Some bytes) e = never_found words s source sink line bytes settings clean e status h
+  pub not_found : IsAnswered words source sink status line → status ≢ Found
+  not_found (refused refusal cause is kept told) = λ found. refusal_is_no_finding refusal (sym found ∙ is)
+  not_found (written text is_clean h is appended told) = λ found. clean_is_no_finding is_clean (clean_output h.0 text is_clean h.1 h.2) (sym found ∙ is)
+  not_found (cut_off text is_clean h fault is appended told) = λ found. let both = sym found ∙ is in cc
+  not_found (no_memory is kept told) = λ found. let both = sym found ∙ is in cc

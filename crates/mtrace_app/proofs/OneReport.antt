@@ -1,6 +1,6 @@
 -- Recorded runs have one report: its text, and whether it is clean.
 use Rattle.std.proofs.Common.{◌≡◌, ◌∙◌, ℕ, List, [], ◌∷◌, ◌++◌, Bool, cond, map, length, refl, sym, ap, subst, arith}
-use Rattle.std.specs.Prelude.{count_by, codes, filter, not, ◌&&◌}
+use Rattle.std.specs.Prelude.{IsTrue, count_by, codes, filter, not, ◌&&◌}
 use Rattle.std.specs.Fmt.{decimal}
 use Rattle.std.specs.List.{flat_map, sum_by, zip}
 use Rattle.std.proofs.lemmas.List.Sums.{sum_by-cons}
@@ -18,12 +18,15 @@ use Rattle.verdict_report.specs.declared.report.Judged.TheVariants.{Ok, Cycle}
 use Rattle.verdict_report.specs.declared.report.Work.{Work}
 use Rattle.verdict_report.specs.Lines.{head_lines, named, signatures, outsides, outside_line, signature_line, cycle_of, verdict_text, is_ok, is_cycle, sum_line, work_line, report_lines_of, tells_outcome, has_cycle, has_outside}
 use Rattle.verdict_report.specs.Numbers.{signature_text}
+use Rattle.chunk_pool.specs.Verdicts.{IsJudged, IsVerdict}
+use Rattle.chunk_pool.proofs.OneWork.{one_work}
 use Rattle.mtrace_app.specs.declared.form.Form.{Form}
 use Rattle.mtrace_app.specs.declared.form.Form.TheVariants.{Whole, Summary}
-use Rattle.mtrace_app.specs.Report.{AreJudged, IsJudged, IsReportIn, IsVerdict, text_in, work_alone}
+use Rattle.mtrace_app.specs.Report.{AreJudged, IsReportIn, IsWork, run_lines, text_in, words_of}
 use Rattle.command_line.specs.declared.meaning.Command.{Command}
-use Rattle.command_line.specs.declared.meaning.Command.TheVariants.{Check, Replay, Run, Generate, Demo}
+use Rattle.command_line.specs.declared.meaning.Command.TheVariants.{Check, Replay, Run, Race, Generate, Demo}
 use Rattle.command_line.specs.declared.meaning.Settings.{Settings}
+use Rattle.mtrace_app.specs.Inputs.{fixes_runs}
 use Rattle.mtrace_app.specs.Outputs.{IsOutputOf, OutputsBy}
 use Rattle.mtrace_app.proofs.ByCommand.{one_meaning_by}
 
@@ -119,7 +122,8 @@ same_report form model chunk p runs text other is_clean also h k =
     let same : f.tally ≡ g.tally = one_tally (map (outcome_of p) runs) f.tally g.tally h.found.counts k.found.counts in
     let judged : AreJudged model p (signatures g.tally) f.verdicts = subst (λ (t : List (Outcome × ℕ)). AreJudged model p (signatures t) f.verdicts) same h.found.judged in
     let look : AllLookSame f.verdicts g.verdicts = all_judged model p (signatures g.tally) f.verdicts g.verdicts judged k.found.judged in
-    let work : f.work ≡ g.work = h.found.works.numbers ∙ ap (λ (t : List (Outcome × ℕ)). work_alone (length (signatures t))) same ∙ sym k.found.works.numbers in (
+    let works : IsWork model p chunk (signatures g.tally) f.work = subst (λ (t : List (Outcome × ℕ)). IsWork model p chunk (signatures t) f.work) same h.found.works in
+    let work : f.work ≡ g.work = one_work model p chunk (words_of (signatures g.tally)) f.work g.work works k.found.works in (
       h.whole ∙ ap (λ (t : List (Outcome × ℕ)). text_in form model (length runs) (record { tally = t; verdicts = f.verdicts; work = f.work })) same
           ∙ ap (λ (w : Work). text_in form model (length runs) (record { tally = g.tally; verdicts = f.verdicts; work = w })) work
           ∙ same_text model (length runs) g.tally g.work form f.verdicts g.verdicts look ∙ sym k.whole,
@@ -131,14 +135,16 @@ one_output_by : (c : Command) (s : Settings) (p : Program) (runs : List (List �
 one_output_by Check s p runs text other is_clean also h k = same_report Whole s.model s.chunk p runs text other is_clean also h k
 one_output_by Replay s p runs text other is_clean also h k = same_report Whole s.model s.chunk p runs text other is_clean also h k
 one_output_by Run s p runs text other is_clean also h k = same_report Whole s.model s.chunk p runs text other is_clean also h k
+one_output_by Race s p runs text other is_clean also h k =
+    let same = same_report Whole s.model s.chunk p runs h.report k.report is_clean also h.reported k.reported in
+    (h.whole ∙ ap (λ (r : List ℕ). run_lines runs ++ r) same.0 ∙ sym k.whole, same.1)
 one_output_by Generate s p runs text other is_clean also h k = (h.0 ∙ sym k.0, h.1 ∙ sym k.1)
 one_output_by Demo s p runs text other is_clean also h k = same_report Summary s.model s.chunk p runs text other is_clean also h k
-one_output_by c s p runs text other is_clean also h k = absurd h
 
-pub one_output : (s : Settings) (bytes text other : List ℕ) (is_clean also : Bool) → IsOutputOf s bytes text is_clean → IsOutputOf s bytes other also → (text ≡ other) × (is_clean ≡ also)
-one_output s bytes text other is_clean also h k =
+pub one_output : (s : Settings) (bytes text other : List ℕ) (is_clean also : Bool) → IsTrue (fixes_runs s.command) → IsOutputOf s bytes text is_clean → IsOutputOf s bytes other also → (text ≡ other) × (is_clean ≡ also)
+one_output s bytes text other is_clean also fixed h k =
     let same = one_meaning_by s.command s bytes k.test h.test k.runs h.runs k.recorded h.recorded in
     let there =
-    subst (λ (rs : List (List ℕ)). OutputsBy s.command s h.test rs other also) same.1
-    (subst (λ (q : Program). OutputsBy s.command s q k.runs other also) same.0 k.output) in
+    subst (λ (rs : List (List ℕ)). OutputsBy s.command s h.test rs other also) (same.same_runs fixed)
+    (subst (λ (q : Program). OutputsBy s.command s q k.runs other also) same.same_test k.output) in
     one_output_by s.command s h.test h.runs text other is_clean also h.output there

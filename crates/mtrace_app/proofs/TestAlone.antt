@@ -10,7 +10,6 @@ use Rattle.test_lang.specs.Text.Refusal.{TextMeans, IsRefused as IsRefusedTest}
 use Rattle.test_lang.proofs.TextLemmas.Readings.{reading_means}
 use Rattle.run_text.specs.declared.fault.RunFault.{RunFault}
 use Rattle.run_text.specs.declared.fault.RunFault.TheVariants.{AfterDone as AfterDoneLine}
-use Rattle.mtrace_app.specs.declared.failure.Failure.{Failure}
 use Rattle.mtrace_app.specs.declared.refusal.InputFault.{InputFault}
 use Rattle.mtrace_app.specs.declared.refusal.Reason.TheVariants.{AfterDone}
 use Rattle.mtrace_app.specs.declared.refusal.Refusal.{Refusal}

@@ -7,14 +7,14 @@ use Rattle.command_line.specs.declared.meaning.Settings.{Settings}
 use Rattle.command_line.specs.Settings.{HasNoSettings, HasSettings}
 use Rattle.mtrace_app.specs.declared.refusal.InputFault.{InputFault}
 use Rattle.mtrace_app.specs.declared.refusal.Refusal.{Refusal}
-use Rattle.mtrace_app.specs.declared.refusal.Refusal.TheVariants.{Words, NotBuilt, ReadFault, Input, TooLarge}
+use Rattle.mtrace_app.specs.declared.refusal.Refusal.TheVariants.{Words, ReadFault, Input, TooLarge}
 use Rattle.mtrace_app.specs.declared.refusal.Size.{Size}
 use Rattle.mtrace_app.specs.declared.refusal.Size.TheVariants.{Bytes}
 use Rattle.mtrace_app.specs.declared.status.Status.{Status}
-use Rattle.mtrace_app.specs.declared.status.Status.TheVariants.{Clean, Found, WriteFault, Memory, Input as InputStatus, TooLarge as TooLargeStatus, NotBuilt as NotBuiltStatus}
+use Rattle.mtrace_app.specs.declared.status.Status.TheVariants.{Clean, Found, WriteFault, Memory, Input as InputStatus, TooLarge as TooLargeStatus}
 use Rattle.mtrace_app.specs.Inputs.{HasRunCount, IsRefusedInput, reads}
 use Rattle.mtrace_app.specs.Limits.{FitLimits, PassLimit}
-use Rattle.mtrace_app.specs.Outputs.{IsOfInput, IsOutputOf, IsUnbuilt, IsUnbuiltCommand, IsUnbuiltInput}
+use Rattle.mtrace_app.specs.Outputs.{IsOfInput, IsOutputOf}
 use Rattle.mtrace_app.specs.Outside.{AppendsFront, Change, HadFault, IsPastLimit, WhereTold}
 use Rattle.mtrace_app.specs.Refusals.{message, refusal_text, status_of}
 use Rattle.mtrace_app.specs.Status.{EndsWith, output_status}
@@ -33,14 +33,12 @@ IsTooLarge s bytes size = (p : Program) × (count : ℕ) × HasRunCount s bytes 
 abbrev pub RefusesInput : Settings → List ℕ → Refusal → Type 0
 RefusesInput s bytes (Input fault) = IsRefusedInput s bytes fault
 RefusesInput s bytes (TooLarge size) = IsTooLarge s bytes size
-RefusesInput s bytes NotBuilt = IsUnbuiltInput s bytes
 RefusesInput s bytes Words = ⊥
 RefusesInput s bytes ReadFault = ⊥
 
 -- why a command has no output
 abbrev pub IsCause : Settings → Change → Refusal → Type 0
 IsCause s source Words = ⊥
-IsCause s source NotBuilt = IsUnbuilt s source
 IsCause s source ReadFault = IsTrue (reads s.command) × HadFault source
 IsCause s source (TooLarge Bytes) = IsTrue (reads s.command) × WhereTold source.before source.now IsPastLimit
 IsCause s source refusal = IsOfInput s source (λ bytes. RefusesInput s bytes refusal)
@@ -66,19 +64,11 @@ pub data IsAnswered (words : List (List ℕ)) (source sink : Change) (status : S
 
 -- ---- completeness: what is due is answered, but for want of memory
 
--- what the words alone are refused for, before anything is taken
-abbrev pub IsDueByWords : List (List ℕ) → Refusal → Type 0
-IsDueByWords words Words = HasNoSettings words
-IsDueByWords words NotBuilt = (s : Settings) × HasSettings words s × IsUnbuiltCommand s
-IsDueByWords words refusal = ⊥
-
 -- The status of a call, by the bytes of its input: no more than an input may have, and taken without a fault.
 pub record IsDue (s : Settings) (bytes : List ℕ) (sink : Change) (status : Status) : Type 0 where
   -- bytes that are refused
   pub refused : (fault : InputFault) → IsRefusedInput s bytes fault → EndsWith status InputStatus
   -- recorded runs that pass a limit
   pub too_large : (p : Program) (count : ℕ) → HasRunCount s bytes p count → ¬ FitLimits count (load_count p) → EndsWith status TooLargeStatus
-  -- recorded runs within the limits, of which something isn't built
-  pub not_built : IsUnbuiltInput s bytes → EndsWith status NotBuiltStatus
   -- all other recorded runs have their output, where the sink had no fault
-  pub output : (p : Program) (count : ℕ) → HasRunCount s bytes p count → FitLimits count (load_count p) → ¬ IsUnbuiltInput s bytes → ¬ HadFault sink → (status ≡ Clean) ⊎ EndsWith status Found
+  pub output : (p : Program) (count : ℕ) → HasRunCount s bytes p count → FitLimits count (load_count p) → ¬ HadFault sink → (status ≡ Clean) ⊎ EndsWith status Found

@@ -1,5 +1,6 @@
 -- What the bytes mean that a command takes: a test with recorded runs, or the refusal of their first bad line.
 use Rattle.std.specs.Prelude.{◌≡◌, ◌≢◌, ℕ, ◌+◌, List, [], map, length, Bool, true, false, Option, Some, None, Err}
+use Rattle.std.specs.List.{AllByRecursion}
 use Rattle.test_lang.specs.Program.{Program}
 use Rattle.test_lang.specs.Values.{load_count}
 use Rattle.test_lang.specs.declared.text.fault.TestFault.{TestFault}
@@ -19,6 +20,7 @@ use Rattle.sim_core.specs.Drawn.{AreDrawnRuns}
 use Rattle.sim_core.specs.declared.schedule.PlayFault.{PlayFault}
 use Rattle.sim_core.specs.declared.schedule.PlayFault.TheVariants.{NotEnabled as NotEnabledStep, Unfinished as UnfinishedPlay}
 use Rattle.sim_core.specs.Schedules.{ComesOut}
+use Rattle.shared_words.specs.Interleavings.{IsInterleaved}
 use Rattle.test_gen.specs.Generated.{generated}
 use Rattle.command_line.specs.declared.meaning.Command.{Command}
 use Rattle.command_line.specs.declared.meaning.Command.TheVariants.{Check, Replay, Run, Race, Generate, Demo}
@@ -122,7 +124,7 @@ pub record ArePlayedRuns (s : Settings) (bytes : List ℕ) (p : Program) (runs :
 abbrev pub AreRefusedPlays : Settings → List ℕ → InputFault → Type 0
 AreRefusedPlays s = IsRefusedRecordedText (λ p. IsLineOfPlay (setup_of s p)) (λ p. IsBadForPlays (setup_of s p)) (λ fault. Some fault)
 
--- ---- a test alone, whose runs are drawn
+-- ---- a test alone, whose runs are drawn or raced
 
 -- the bytes are the text of a test, and nothing stands behind it
 abbrev pub IsTestAlone : List ℕ → Program → Type 0
@@ -137,8 +139,13 @@ pub data IsRefusedTestAlone (bytes : List ℕ) (fault : InputFault) : Type 0 whe
 abbrev pub AreRunsDrawn : Settings → Program → List (List ℕ) → Type 0
 AreRunsDrawn s p = AreDrawnRuns (setup_of s p) s.gen_settings.seed s.runs
 
--- ---- by command: one that isn't built has no recorded runs and refuses no bytes
--- `generate` and `demo` take none, and are of the test that their settings draw. Only `demo` has runs of it.
+-- So many runs of a test, each that of one interleaving of its threads. Which these are, nothing says.
+pub record AreRaces (p : Program) (count : ℕ) (runs : List (List ℕ)) : Type 0 where
+  pub number : length runs ≡ count
+  pub each : AllByRecursion (IsInterleaved p) runs
+
+-- ---- by command
+-- `generate` and `demo` take no bytes, and are of the test that their settings draw. Only `demo` has runs of it.
 
 abbrev pub RecordsBy : Command → Settings → List ℕ → Program → List (List ℕ) → Type 0
 RecordsBy Check s bytes p runs = AreRecordedRuns bytes p runs
@@ -146,13 +153,23 @@ RecordsBy Replay s bytes p runs = ArePlayedRuns s bytes p runs
 RecordsBy Run s bytes p runs = IsTestAlone bytes p × AreRunsDrawn s p runs
 RecordsBy Generate s bytes p runs = (p ≡ generated s.gen_settings) × (runs ≡ [])
 RecordsBy Demo s bytes p runs = (p ≡ generated s.gen_settings) × AreRunsDrawn s p runs
-RecordsBy command s bytes p runs = ⊥
+RecordsBy Race s bytes p runs = IsTestAlone bytes p × AreRaces p s.runs runs
 
 abbrev pub RefusesBy : Command → Settings → List ℕ → InputFault → Type 0
 RefusesBy Check s bytes fault = AreRefusedRuns bytes fault
 RefusesBy Replay s bytes fault = AreRefusedPlays s bytes fault
 RefusesBy Run s bytes fault = IsRefusedTestAlone bytes fault
+RefusesBy Race s bytes fault = IsRefusedTestAlone bytes fault
 RefusesBy command s bytes fault = ⊥
+
+-- whether the bytes and the settings leave one list of recorded runs: a race may make any
+abbrev pub fixes_runs : Command → Bool
+fixes_runs Check = true
+fixes_runs Replay = true
+fixes_runs Run = true
+fixes_runs Race = false
+fixes_runs Generate = true
+fixes_runs Demo = true
 
 -- By these settings the bytes mean this test and these recorded runs of it.
 abbrev pub IsRecorded : Settings → List ℕ → Program → List (List ℕ) → Type 0

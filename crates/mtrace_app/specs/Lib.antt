@@ -11,4 +11,3 @@ pub mod Failures
 pub mod Counted
 pub mod Played
 pub mod Alarms
-pub mod Judging

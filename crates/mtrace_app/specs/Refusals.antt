@@ -6,9 +6,9 @@ use Rattle.mtrace_app.specs.declared.refusal.Reason.TheVariants.{BadHead, BadWor
 use Rattle.mtrace_app.specs.declared.refusal.Size.{Size}
 use Rattle.mtrace_app.specs.declared.refusal.Size.TheVariants.{Bytes, Runs, Values}
 use Rattle.mtrace_app.specs.declared.refusal.Refusal.{Refusal}
-use Rattle.mtrace_app.specs.declared.refusal.Refusal.TheVariants.{Words, NotBuilt, ReadFault, Input, TooLarge}
+use Rattle.mtrace_app.specs.declared.refusal.Refusal.TheVariants.{Words, ReadFault, Input, TooLarge}
 use Rattle.mtrace_app.specs.declared.status.Status.{Status}
-use Rattle.mtrace_app.specs.declared.status.Status.TheVariants.{Words as StatusWords, NotBuilt as StatusNotBuilt, ReadFault as StatusReadFault, Input as StatusInput, TooLarge as StatusTooLarge}
+use Rattle.mtrace_app.specs.declared.status.Status.TheVariants.{Words as StatusWords, ReadFault as StatusReadFault, Input as StatusInput, TooLarge as StatusTooLarge}
 
 -- why a line of an input is bad
 abbrev pub reason_text : Reason → List ℕ
@@ -37,7 +37,6 @@ size_text (Values count) = codes "values " ++ decimal count
 -- why there is no output
 abbrev pub refusal_text : Refusal → List ℕ
 refusal_text Words = codes "words"
-refusal_text NotBuilt = codes "not built"
 refusal_text ReadFault = codes "read fault"
 refusal_text (Input fault) = codes "input line " ++ (decimal fault.line ++ (codes ": " ++ reason_text fault.reason))
 refusal_text (TooLarge size) = codes "too large: " ++ size_text size
@@ -49,7 +48,6 @@ message text = codes "mtrace: " ++ (text ++ 10 ∷ [])
 -- the status of a call that is refused
 abbrev pub status_of : Refusal → Status
 status_of Words = StatusWords
-status_of NotBuilt = StatusNotBuilt
 status_of ReadFault = StatusReadFault
 status_of (Input fault) = StatusInput
 status_of (TooLarge size) = StatusTooLarge

@@ -1,30 +1,19 @@
 -- The report of runs: what is found of them, and the text that tells it.
-use Rattle.std.specs.Prelude.{◌≡◌, ◌⊎◌, ℕ, ◌≤◌, List, [], ◌∷◌, map, length, Bool, not, ◌&&◌}
+use Rattle.std.specs.Prelude.{◌≡◌, ℕ, List, [], ◌∷◌, ◌++◌, map, length, Bool, not, ◌&&◌}
 use Rattle.tally.specs.declared.outcome.Outcome.{Outcome}
 use Rattle.tally.specs.Tallies.{IsTally, total_of}
 use Rattle.test_lang.specs.declared.op.MemModel.{MemModel}
 use Rattle.test_lang.specs.Program.{Program}
-use Rattle.test_lang.specs.Signatures.{Means}
-use Rattle.test_lang.specs.Edges.{IsRunAcyclic, HasNoRunOrder, IsCanonicalRunCycle}
+use Rattle.test_lang.specs.Text.Line.{closed}
+use Rattle.run_text.specs.Runs.{line_of_run}
 use Rattle.signature_plan.specs.Outcomes.{outcome_of}
 use Rattle.verdict_report.specs.declared.report.Judged.{Judged}
-use Rattle.verdict_report.specs.declared.report.Judged.TheVariants.{Ok, Cycle}
 use Rattle.verdict_report.specs.declared.report.Work.{Work}
 use Rattle.verdict_report.specs.Lines.{signatures, report_text_of, summary_text_of, has_cycle, has_outside}
+use Rattle.chunk_pool.specs.Chunks.{IsWorkInChunks}
+use Rattle.chunk_pool.specs.Verdicts.{IsJudged}
 use Rattle.mtrace_app.specs.declared.form.Form.{Form}
 use Rattle.mtrace_app.specs.declared.form.Form.TheVariants.{Whole, Summary}
-
--- The verdict on a run, by its own edges alone: ok where it has an order, and otherwise its canonical cycle.
-abbrev pub IsVerdict : MemModel → Program → List ℕ → Judged → Type 0
-IsVerdict model p run Ok = IsRunAcyclic model p run
-IsVerdict model p run (Cycle nodes) = HasNoRunOrder model p run × IsCanonicalRunCycle model p run nodes.list
-
--- The verdict on a signature is that on the one run that it means.
-pub record IsJudged (model : MemModel) (p : Program) (words : List ℕ) (judged : Judged) : Type 0 where
-  pub run : List ℕ
-  pub means : Means p words run
-  pub one : (other : List ℕ) → Means p words other → other ≡ run
-  pub verdict : IsVerdict model p run judged
 
 -- one verdict for each signature of a tally, in their order
 abbrev pub AreJudged : MemModel → Program → List (List ℕ × ℕ) → List Judged → Type 0
@@ -33,14 +22,13 @@ AreJudged model p [] (judged ∷ found) = ⊥
 AreJudged model p (signature ∷ more) [] = ⊥
 AreJudged model p (signature ∷ more) (judged ∷ found) = IsJudged model p signature.0 judged × AreJudged model p more found
 
--- so many chunks of one signature each: all nodes of each are sorted
-abbrev pub work_alone : ℕ → Work
-work_alone count = record { chunks = count; full = count; kept = 0; resorted = 0; nodes = 0 }
+-- the words of signatures with counts
+abbrev pub words_of : List (List ℕ × ℕ) → List (List ℕ)
+words_of signatures = map (λ signature. signature.0) signatures
 
--- The work on these signatures, in chunks of this size. So far no chunk has more than one of them.
-pub record IsWork (model : MemModel) (p : Program) (chunk : ℕ) (signatures : List (List ℕ × ℕ)) (work : Work) : Type 0 where
-  pub alone : (chunk ≡ 1) ⊎ (length signatures ≤ 1)
-  pub numbers : work ≡ work_alone (length signatures)
+-- the work on these signatures, in chunks of this size
+abbrev pub IsWork : MemModel → Program → ℕ → List (List ℕ × ℕ) → Work → Type 0
+IsWork model p chunk signatures work = IsWorkInChunks model p chunk (words_of signatures) work
 
 -- What is found of runs: the counts of their outcomes, the verdicts on the signatures among these, and the work.
 pub record Findings : Type 0 where
@@ -79,3 +67,13 @@ IsReport = IsReportIn Whole
 -- its summary, which is clean where the report is
 abbrev pub IsSummary : MemModel → ℕ → Program → List (List ℕ) → List ℕ → Bool → Type 0
 IsSummary = IsReportIn Summary
+
+-- a line of each run
+abbrev pub run_lines : List (List ℕ) → List ℕ
+run_lines runs = closed (map line_of_run runs)
+
+-- The lines of these runs, and behind them their report.
+pub record IsRunsAndReport (model : MemModel) (chunk : ℕ) (p : Program) (runs : List (List ℕ)) (text : List ℕ) (is_clean : Bool) : Type 0 where
+  pub report : List ℕ
+  pub reported : IsReport model chunk p runs report is_clean
+  pub whole : text ≡ run_lines runs ++ report

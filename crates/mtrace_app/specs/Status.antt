@@ -1,7 +1,7 @@
 -- The status that a call ends with.
 use Rattle.std.specs.Prelude.{◌≡◌, ◌⊎◌, ℕ, Bool, if◌then◌else◌}
 use Rattle.mtrace_app.specs.declared.status.Status.{Status}
-use Rattle.mtrace_app.specs.declared.status.Status.TheVariants.{Clean, Found, Words, Input, ReadFault, WriteFault, Memory, TooLarge, NotBuilt}
+use Rattle.mtrace_app.specs.declared.status.Status.TheVariants.{Clean, Found, Words, Input, ReadFault, WriteFault, Memory, TooLarge}
 
 -- the number that the program ends with as exit status
 abbrev pub exit_number : Status → ℕ
@@ -13,7 +13,6 @@ exit_number ReadFault = 4
 exit_number WriteFault = 5
 exit_number Memory = 6
 exit_number TooLarge = 7
-exit_number NotBuilt = 8
 
 -- the status with which an output ends that is written whole
 abbrev pub output_status : Bool → Status

@@ -1,18 +1,19 @@
 //! What a call answers, before anything of it is written.
 ghost use Rattle.std.specs.Prelude.{◌≡◌, ◌⊎◌, ◌≤◌};
+ghost use Rattle.command_line.specs.Settings.{HasNoSettings};
 ghost use Rattle.mtrace_app.specs.Answering.{IsAnswerTo, TellsRefusal, answer_line, answer_status};
-ghost use Rattle.mtrace_app.specs.Answers.{IsDueByWords, texts};
+ghost use Rattle.mtrace_app.specs.Answers.{texts};
 ghost use Rattle.mtrace_app.specs.Outside.{change, IsPastLimit, IsRestOf, WhereTold};
-ghost use Rattle.mtrace_app.specs.Refusals.{status_of};
 
 use crate::counted::Output;
 use crate::failure::Failure;
 use crate::output::output_for;
 use crate::refusal::Refusal;
 use crate::status::Status;
-use mt_base::Source;
+use mt_base::{Gate, Source};
 use std::alloc::Global;
 use std::borrow::CowStr;
+use std::thread::Threads;
 
 /// An output that is to be written, or a refusal with its line, or memory was refused.
 #[derive(Drop)]
@@ -36,17 +37,23 @@ fn refused(alloc: Global, refusal: Refusal) -> Answer
 }
 
 /// The answer to words.
-pub(crate) fn answer_words<S: Source>(alloc: Global, words: &[String], source: &mut S) -> Answer
+pub(crate) fn answer_words<R: Threads + Sync, S: Source, G: Gate + Sync>(
+    rt: &R,
+    alloc: Global,
+    words: &[String],
+    source: &mut S,
+    gate: &G,
+) -> Answer
     ensures answer { IsAnswerTo (texts words.now)
         (change (S.left source.old) (S.left source.new) (S.faults source.old) (S.faults source.new)) result }
-    ensures by_words { (refusal : Refusal) → IsDueByWords (texts words.now) refusal →
-        ((answer_status result ≡ status_of refusal) ⊎ (result ≡ Answer.NoMemory)) × (source.new ≡ source.old) }
+    ensures by_words { HasNoSettings (texts words.now) →
+        ((answer_status result ≡ Status.Words) ⊎ (result ≡ Answer.NoMemory)) × (source.new ≡ source.old) }
     ensures too_large { WhereTold (S.left source.old) (S.left source.new)
         (λ before now. IsPastLimit before now → answer_status result ≡ Status.TooLarge) }
     ensures rest { IsRestOf (S.left source.old) (S.left source.new) }
     ensures later { S.faults source.old ≤ S.faults source.new }
 {
-    match output_for(alloc, words, source) {
+    match output_for(rt, alloc, words, source, gate) {
         Ok(output) => Answer::Made(output),
         Err(Failure::Refused(refusal)) => refused(alloc, refusal),
         Err(Failure::Memory) => Answer::NoMemory,

@@ -1,22 +1,22 @@
 //! From counted runs to their report: nothing here asks where the runs come from.
-ghost use Rattle.std.specs.Prelude.{◌≡◌, ◌≢◌, ◌⊎◌, ◌≤◌, ℕ, List, length, not, ◌&&◌, IfOk, IfErr};
-ghost use Rattle.std.specs.Bool.{OnFalse, OnTrue};
+ghost use Rattle.std.specs.Prelude.{◌≡◌, ◌≤◌, ℕ, List, length, not, ◌&&◌, IfOk};
+ghost use Rattle.command_line.specs.Settings.{IsWithinRanges};
 ghost use Rattle.verdict_report.specs.Lines.{signatures, has_cycle, has_outside};
 ghost use Rattle.mtrace_app.specs.Counted.{AreCounted, AreMeant};
-ghost use Rattle.mtrace_app.specs.Failures.{IfRefused};
-ghost use Rattle.mtrace_app.specs.Judging.{IsJudge};
-ghost use Rattle.mtrace_app.specs.Report.{AreJudged, IsReportIn, text_in, work_alone};
+ghost use Rattle.mtrace_app.specs.Outputs.{form_of};
+ghost use Rattle.mtrace_app.specs.Report.{IsReportIn, text_in, words_of};
 
-use crate::failure::Failure;
 use crate::form::Form;
-use crate::judging::Judge;
-use crate::refusal::Refusal;
+use chunk_pool::{Checked, check_all};
+use command_line::Settings;
+use mt_base::Gate;
 use signature_plan::Plan;
 use std::alloc::{AllocError, Global};
-use tally::{Outcome, Tally};
+use std::thread::Threads;
+use tally::{Outcome, Signature, Tally};
 use test_lang::op::MemModel;
 use test_lang::test::Test;
-use verdict_report::{Judged, Report, Work, summary, text};
+use verdict_report::{Report, summary, text};
 
 /// Runs of a test that were counted: how many they are, and how often each outcome occurred.
 #[derive(Drop)]
@@ -35,113 +35,70 @@ pub(crate) struct Output {
     pub(crate) is_clean: bool,
 }
 
-/// The number of distinct signatures.
-fn count_signatures(tally: &Tally) -> usize
-    ensures { result ≡ length (signatures tally.now) }
+/// The distinct signatures, rising.
+fn signatures_of(alloc: Global, tally: &Tally) -> Result<Vec<Signature>, AllocError>
+    ensures { IfOk result (λ found. found.items ≡ words_of (signatures tally.now)) }
 {
-    let mut count = 0;
-    for (outcome, _) in tally.iter() {
-        if let Outcome::Inside(_) = outcome {
-            count += 1;
-        }
-    }
-    count
-}
-
-/// The verdict on each signature, in their order. There is room for so many.
-fn judge_all(
-    alloc: Global,
-    judge: &mut Judge,
-    plan: &Plan,
-    tally: &Tally,
-    room: usize,
-) -> Result<Vec<Judged>, AllocError>
-    requires room { IsJudge judge.old }
-    requires plan { plan.now ≡ judge.old.fixed.test }
-    requires meant { AreMeant judge.old.fixed.test (signatures tally.now) }
-    ensures { IfOk result (λ found. AreJudged judge.old.fixed.model judge.old.fixed.test (signatures tally.now) found.items) }
-{
-    let mut found = Vec::with_capacity(alloc, room)?;
+    let mut found = Vec::new(alloc);
     for (outcome, _) in tally.iter() {
         if let Outcome::Inside(signature) = outcome {
-            found.push(judge.verdict(alloc, plan, signature.words())?)?;
+            found.push(Signature::of(alloc, signature.words())?)?;
         }
     }
     Ok(found)
 }
 
-/// The verdict on each signature of counted runs, in their order. There is room for so many.
-fn verdicts_on(
+/// The report of counted runs, by the settings: under their model, in chunks of their size, by so many workers, and in the form of their command.
+pub(crate) fn report_of<R: Threads + Sync, G: Gate + Sync>(
+    rt: &R,
     alloc: Global,
-    model: MemModel,
+    settings: &Settings,
     counted: &Counted<'_>,
-    room: usize,
-) -> Result<Vec<Judged>, AllocError>
+    gate: &G,
+) -> Result<Output, AllocError>
+    requires ranges { IsWithinRanges settings.now }
     requires plan { counted.now.plan.now ≡ counted.now.test.now }
+    requires few { length (signatures counted.now.tally.now) ≤ 1000000 }
     requires meant { AreMeant counted.now.test.now (signatures counted.now.tally.now) }
-    ensures { IfOk result (λ found. AreJudged model counted.now.test.now (signatures counted.now.tally.now) found.items) }
+    ensures { IfOk result (λ output. (runs : List (List ℕ)) → AreCounted counted.now.test.now runs counted.now.runs counted.now.tally.now
+        → IsReportIn (form_of settings.now.command) settings.now.model settings.now.chunk counted.now.test.now runs output.text.items output.is_clean) }
 {
-    let mut judge = Judge::new(alloc, counted.test, model)?;
-    judge_all(alloc, &mut judge, counted.plan, counted.tally, room)
+    let signatures = signatures_of(alloc, counted.tally)?;
+    let checked = check_all(
+        rt,
+        alloc,
+        counted.test,
+        counted.plan,
+        settings.model,
+        &signatures,
+        settings.chunk,
+        settings.workers,
+        gate,
+    )?;
+    let form = Form::of(settings.command);
+    write_report(alloc, settings.model, form, counted, &checked)
 }
 
-/// Whether a chunk of this size may have more than one of so many signatures.
-fn shares_chunks(chunk: u32, signatures: usize) -> bool
-    ensures some { OnTrue result ((chunk ≢ 1) × (2 ≤ signatures)) }
-    ensures none { OnFalse result ((chunk ≡ 1) ⊎ (signatures ≤ 1)) }
-{
-    chunk != 1 && signatures > 1
-}
-
-/// The report of counted runs, under a model and for chunks of this size, in a form. Each signature is a chunk of its own: chunks of more aren't built.
-pub(crate) fn report_of(
-    alloc: Global,
-    model: MemModel,
-    chunk: u32,
-    form: Form,
-    counted: &Counted<'_>,
-) -> Result<Output, Failure>
-    requires plan { counted.now.plan.now ≡ counted.now.test.now }
-    requires meant { AreMeant counted.now.test.now (signatures counted.now.tally.now) }
-    ensures report { IfOk result (λ output. (runs : List (List ℕ)) → AreCounted counted.now.test.now runs counted.now.runs counted.now.tally.now
-        → IsReportIn form model chunk counted.now.test.now runs output.text.items output.is_clean) }
-    ensures unbuilt { IfErr result (IfRefused (λ refusal. (refusal ≡ Refusal.NotBuilt) × (chunk ≢ 1) × (2 ≤ length (signatures counted.now.tally.now)))) }
-{
-    let signatures = count_signatures(counted.tally);
-    if shares_chunks(chunk, signatures) {
-        return Err(Failure::Refused(Refusal::NotBuilt));
-    }
-    let found = verdicts_on(alloc, model, counted, signatures)?;
-    Ok(write_report(alloc, model, form, counted, &found)?)
-}
-
-/// The text of the report in a form, by the verdicts on the signatures.
+/// The text of the report in a form, by the verdicts on the signatures and the work.
 fn write_report(
     alloc: Global,
     model: MemModel,
     form: Form,
     counted: &Counted<'_>,
-    found: &[Judged],
+    checked: &Checked,
 ) -> Result<Output, AllocError>
-    requires { length found.now ≡ length (signatures counted.now.tally.now) }
+    requires { length checked.now.found.items ≡ length (signatures counted.now.tally.now) }
     ensures text { IfOk result (λ output. output.text.items ≡ text_in form model counted.now.runs
-        (record { tally = counted.now.tally.now; verdicts = found.now; work = work_alone (length found.now) })) }
+        (record { tally = counted.now.tally.now; verdicts = checked.now.found.items; work = checked.now.work })) }
     ensures clean { IfOk result (λ output. output.is_clean
-        ≡ (not (has_cycle found.now) && not (has_outside counted.now.tally.now))) }
+        ≡ (not (has_cycle checked.now.found.items) && not (has_outside counted.now.tally.now))) }
 {
-    let chunks = found.len() as u64;
     let report = Report {
         model,
         runs: counted.runs,
         tally: counted.tally,
-        found,
-        work: Work {
-            chunks,
-            full: chunks,
-            kept: 0,
-            resorted: 0,
-            nodes: 0,
-        },
+        found: &checked.found,
+        work: checked.work,
     };
     let text = match form {
         Form::Whole => text(alloc, &report)?,

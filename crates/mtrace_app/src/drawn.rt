@@ -5,26 +5,28 @@ ghost use Rattle.test_gen.specs.Generated.{generated};
 ghost use Rattle.test_lang.specs.Targets.{fits};
 ghost use Rattle.mtrace_app.specs.declared.refusal.InputFault.{InputFault};
 ghost use Rattle.mtrace_app.specs.declared.refusal.Refusal.{Refusal};
-ghost use Rattle.mtrace_app.specs.Counted.{AreCountedWithin};
+ghost use Rattle.mtrace_app.specs.Counted.{AreCountedIn};
 ghost use Rattle.mtrace_app.specs.Failures.{IfRefused};
 ghost use Rattle.mtrace_app.specs.Inputs.{AreRunsDrawn, IsRefusedTestAlone, IsTestAlone};
 
 use crate::failure::Failure;
 use crate::limits::fit_limits;
-use crate::recorded::RunsRead;
 use crate::refusal::Refusal;
+use crate::test_runs::{Counts, TestRuns};
 use command_line::Settings;
+use mt_base::Gate;
 use run_text::next_line::nothing_after;
-use runner::{Job, run_one};
+use runner::{Job, run_all};
 use signature_plan::Plan;
 use sim_core::one_list_of_drawn_runs;
 use std::alloc::{AllocError, Global};
+use std::thread::Threads;
 use tally::Tally;
 use test_gen::generate;
 use test_lang::test::Test;
 
 /// The test that an input is.
-fn read_test(alloc: Global, input: &[u8]) -> Result<Test, Failure>
+pub(crate) fn read_test(alloc: Global, input: &[u8]) -> Result<Test, Failure>
     requires { length input.now ≤ 2 ^ 30 }
     ensures ok { IfOk result (λ test. IsTestAlone input.now test) }
     ensures err { IfErr result (IfRefused (λ refusal. (fault : InputFault)
@@ -35,24 +37,26 @@ fn read_test(alloc: Global, input: &[u8]) -> Result<Test, Failure>
     Ok(read.test)
 }
 
-/// Draws the runs of a test, and counts their outcomes. Where they pass a limit, none is drawn and none counted.
-fn count_drawn(
+/// Draws the runs of a test by so many runners as the settings say, and counts their outcomes. Where they pass a limit, none is drawn and none counted.
+fn count_drawn<R: Threads + Sync, G: Gate + Sync>(
+    rt: &R,
     alloc: Global,
     settings: &Settings,
     test: &Test,
     plan: &Plan,
-) -> Result<Tally, AllocError>
+    gate: &G,
+) -> Result<Counts, AllocError>
     requires fits { IsTrue (fits settings.now.target settings.now.fault) }
-    requires few { settings.now.runs ≤ 1000000 }
+    requires ranges { IsWithinRanges settings.now }
     requires plan { plan.now ≡ test.now }
-    ensures { IfOk result (λ tally. (runs : List (List ℕ))
+    ensures { IfOk result (λ counts. (runs : List (List ℕ))
         × AreRunsDrawn settings.now test.now runs
-        × AreCountedWithin test.now runs settings.now.runs tally) }
+        × AreCountedIn test.now runs settings.now.runs counts) }
 {
     // Runs that aren't drawn are there by this law.
     one_list_of_drawn_runs();
     if !fit_limits(u64::from(settings.runs), u64::from(test.loads())) {
-        return Ok(Tally::new(alloc));
+        return Ok(Counts::Alone(Tally::new(alloc)));
     }
     let job = Job {
         test,
@@ -62,36 +66,45 @@ fn count_drawn(
         seed: settings.gen_settings.seed,
         runs: settings.runs,
     };
-    run_one(alloc, &job)
+    let finished = run_all(rt, alloc, &job, settings.runners, gate)?;
+    Ok(Counts::Shared(finished))
 }
 
 /// A test, and the runs that the settings draw of it.
-fn draw_runs(alloc: Global, settings: &Settings, test: Test) -> Result<RunsRead, AllocError>
+fn draw_runs<R: Threads + Sync, G: Gate + Sync>(
+    rt: &R,
+    alloc: Global,
+    settings: &Settings,
+    test: Test,
+    gate: &G,
+) -> Result<TestRuns, AllocError>
     requires fits { IsTrue (fits settings.now.target settings.now.fault) }
-    requires few { settings.now.runs ≤ 1000000 }
+    requires ranges { IsWithinRanges settings.now }
     ensures test { IfOk result (λ read. read.test ≡ test) }
     ensures plan { IfOk result (λ read. read.plan ≡ read.test) }
     ensures few { IfOk result (λ read. read.runs < 2 ^ 32) }
     ensures runs { IfOk result (λ read. (runs : List (List ℕ))
         × AreRunsDrawn settings.now test runs
-        × AreCountedWithin test runs read.runs read.tally) }
+        × AreCountedIn test runs read.runs read.counts) }
 {
     let plan = Plan::of(alloc, &test)?;
-    let tally = count_drawn(alloc, settings, &test, &plan)?;
-    Ok(RunsRead {
+    let counts = count_drawn(rt, alloc, settings, &test, &plan, gate)?;
+    Ok(TestRuns {
         test,
         plan,
         runs: u64::from(settings.runs),
-        tally,
+        counts,
     })
 }
 
 /// The test that an input is, and its drawn runs.
-pub(crate) fn draw_runs_of_input(
+pub(crate) fn draw_runs_of_input<R: Threads + Sync, G: Gate + Sync>(
+    rt: &R,
     alloc: Global,
     settings: &Settings,
     input: &[u8],
-) -> Result<RunsRead, Failure>
+    gate: &G,
+) -> Result<TestRuns, Failure>
     requires ranges { IsWithinRanges settings.now }
     requires consistent { AreConsistent settings.now }
     requires few { length input.now ≤ 2 ^ 30 }
@@ -99,19 +112,21 @@ pub(crate) fn draw_runs_of_input(
     ensures few { IfOk result (λ read. read.runs < 2 ^ 32) }
     ensures ok { IfOk result (λ read. IsTestAlone input.now read.test × ((runs : List (List ℕ))
         × AreRunsDrawn settings.now read.test runs
-        × AreCountedWithin read.test runs read.runs read.tally)) }
+        × AreCountedIn read.test runs read.runs read.counts)) }
     ensures err { IfErr result (IfRefused (λ refusal. (fault : InputFault)
         × (refusal ≡ Refusal.Input fault) × IsRefusedTestAlone input.now fault)) }
 {
     let test = read_test(alloc, input)?;
-    Ok(draw_runs(alloc, settings, test)?)
+    Ok(draw_runs(rt, alloc, settings, test, gate)?)
 }
 
 /// The test that the settings generate, and its drawn runs.
-pub(crate) fn draw_runs_of_generated(
+pub(crate) fn draw_runs_of_generated<R: Threads + Sync, G: Gate + Sync>(
+    rt: &R,
     alloc: Global,
     settings: &Settings,
-) -> Result<RunsRead, AllocError>
+    gate: &G,
+) -> Result<TestRuns, AllocError>
     requires ranges { IsWithinRanges settings.now }
     requires consistent { AreConsistent settings.now }
     ensures test { IfOk result (λ read. read.test ≡ generated settings.now.gen_settings) }
@@ -119,8 +134,8 @@ pub(crate) fn draw_runs_of_generated(
     ensures few { IfOk result (λ read. read.runs < 2 ^ 32) }
     ensures ok { IfOk result (λ read. (runs : List (List ℕ))
         × AreRunsDrawn settings.now read.test runs
-        × AreCountedWithin read.test runs read.runs read.tally) }
+        × AreCountedIn read.test runs read.runs read.counts) }
 {
     let test = generate(alloc, &settings.gen_settings)?;
-    draw_runs(alloc, settings, test)
+    draw_runs(rt, alloc, settings, test, gate)
 }

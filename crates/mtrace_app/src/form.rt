@@ -14,7 +14,7 @@ pub(crate) enum Form {
 }
 
 impl Form {
-    /// The form of a command.
+    /// The form of a command. `generate` reports nothing, and isn't asked for one.
     pub(crate) fn of(command: Command) -> Form
         ensures { result ≡ form_of command }
     {

@@ -1,11 +1,11 @@
 //! What a command writes, by the words and by what the source gives.
 ghost use Rattle.std.specs.Prelude.{◌≡◌, ◌⊎◌, ◌≤◌, Err, IfOk, IfErr};
-ghost use Rattle.command_line.specs.Settings.{AreConsistent, IsWithinRanges};
+ghost use Rattle.command_line.specs.Settings.{AreConsistent, HasNoSettings, IsWithinRanges};
 ghost use Rattle.mtrace_app.specs.declared.refusal.Refusal.{Refusal};
 ghost use Rattle.mtrace_app.specs.declared.failure.Failure.TheVariants.{Memory, Refused};
-ghost use Rattle.mtrace_app.specs.Answers.{HasCause, HasOutput, IsCause, IsDueByWords, texts};
+ghost use Rattle.mtrace_app.specs.Answers.{HasCause, HasOutput, IsCause, texts};
 ghost use Rattle.mtrace_app.specs.Failures.{IfRefused};
-ghost use Rattle.mtrace_app.specs.Outputs.{IsOfInput, IsOutputOf, IsUnbuiltCommand};
+ghost use Rattle.mtrace_app.specs.Outputs.{IsOfInput, IsOutputOf};
 ghost use Rattle.mtrace_app.specs.Outside.{change, IsPastLimit, IsRestOf, WhereTold};
 
 use crate::counted::Output;
@@ -15,14 +15,17 @@ use crate::input::output_for_input;
 use crate::reading::read_to_end;
 use crate::refusal::{Refusal, Size};
 use command_line::{Command, Settings, settings};
-use mt_base::Source;
+use mt_base::{Gate, Source};
 use std::alloc::Global;
+use std::thread::Threads;
 
-/// The output of a command with its settings. A command that isn't built takes nothing.
-fn output_of<S: Source>(
+/// The output of a command with its settings.
+fn output_of<R: Threads + Sync, S: Source, G: Gate + Sync>(
+    rt: &R,
     alloc: Global,
     settings: &Settings,
     source: &mut S,
+    gate: &G,
 ) -> Result<Output, Failure>
     requires ranges { IsWithinRanges settings.now }
     requires consistent { AreConsistent settings.now }
@@ -30,41 +33,40 @@ fn output_of<S: Source>(
         (λ bytes. IsOutputOf settings.now bytes output.text.items output.is_clean)) }
     ensures refused { IfErr result (IfRefused (IsCause settings.now
         (change (S.left source.old) (S.left source.new) (S.faults source.old) (S.faults source.new)))) }
-    ensures not_built { IsUnbuiltCommand settings.now →
-        (result ≡ Err (Refused Refusal.NotBuilt)) × (source.new ≡ source.old) }
     ensures too_large { WhereTold (S.left source.old) (S.left source.new)
         (λ before now. IsPastLimit before now → result ≡ Err (Refused (Refusal.TooLarge Size.Bytes))) }
     ensures rest { IsRestOf (S.left source.old) (S.left source.new) }
     ensures later { S.faults source.old ≤ S.faults source.new }
 {
     match settings.command {
-        Command::Check | Command::Replay | Command::Run => {
+        Command::Check | Command::Replay | Command::Run | Command::Race => {
             let input = read_to_end(alloc, source)?;
-            output_for_input(alloc, settings, &input)
+            output_for_input(rt, alloc, settings, &input, gate)
         }
         Command::Generate => Ok(generated_text(alloc, settings)?),
-        Command::Demo => output_for_input(alloc, settings, &[]),
-        Command::Race => Err(Failure::Refused(Refusal::NotBuilt)),
+        Command::Demo => output_for_input(rt, alloc, settings, &[], gate),
     }
 }
 
 /// The output that the words ask for.
-pub(crate) fn output_for<S: Source>(
+pub(crate) fn output_for<R: Threads + Sync, S: Source, G: Gate + Sync>(
+    rt: &R,
     alloc: Global,
     words: &[String],
     source: &mut S,
+    gate: &G,
 ) -> Result<Output, Failure>
     ensures output { IfOk result (λ output. HasOutput (texts words.now)
         (change (S.left source.old) (S.left source.new) (S.faults source.old) (S.faults source.new)) output.text.items output.is_clean) }
     ensures refused { IfErr result (IfRefused (HasCause (texts words.now)
         (change (S.left source.old) (S.left source.new) (S.faults source.old) (S.faults source.new)))) }
-    ensures by_words { (refusal : Refusal) → IsDueByWords (texts words.now) refusal →
-        ((result ≡ Err (Refused refusal)) ⊎ (result ≡ Err Memory)) × (source.new ≡ source.old) }
+    ensures by_words { HasNoSettings (texts words.now) →
+        ((result ≡ Err (Refused Refusal.Words)) ⊎ (result ≡ Err Memory)) × (source.new ≡ source.old) }
     ensures too_large { WhereTold (S.left source.old) (S.left source.new)
         (λ before now. IsPastLimit before now → result ≡ Err (Refused (Refusal.TooLarge Size.Bytes))) }
     ensures rest { IsRestOf (S.left source.old) (S.left source.new) }
     ensures later { S.faults source.old ≤ S.faults source.new }
 {
     let settings = settings(alloc, words)?;
-    output_of(alloc, &settings, source)
+    output_of(rt, alloc, &settings, source, gate)
 }

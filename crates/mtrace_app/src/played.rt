@@ -7,14 +7,15 @@ ghost use Rattle.sim_core.specs.Setup.{run_after};
 ghost use Rattle.mtrace_app.specs.declared.failure.Failure.{Failure};
 ghost use Rattle.mtrace_app.specs.declared.refusal.InputFault.{InputFault};
 ghost use Rattle.mtrace_app.specs.declared.refusal.Refusal.{Refusal};
-ghost use Rattle.mtrace_app.specs.Counted.{AreCountedWithin, RefusesBehind};
+ghost use Rattle.mtrace_app.specs.Counted.{AreCountedIn, AreCountedWithin, RefusesBehind};
 ghost use Rattle.mtrace_app.specs.Failures.{IfRefused};
 ghost use Rattle.mtrace_app.specs.Inputs.{ArePlayedRuns, AreRefusedPlays, IsBadForPlays, IsLineOfPlay, fault_of_play, setup_of};
 ghost use Rattle.mtrace_app.specs.Played.{PlaysOn};
 
 use crate::failure::Failure;
-use crate::recorded::{RunsRead, count_run};
+use crate::recorded::count_run;
 use crate::refusal::{InputFault, Reason, Refusal};
+use crate::test_runs::{Counts, TestRuns};
 use command_line::Settings;
 use run_text::schedule_lines::ScheduleLines;
 use sc_machine::ScMachine;
@@ -134,14 +135,14 @@ pub(crate) fn read_plays(
     alloc: Global,
     settings: &Settings,
     input: &[u8],
-) -> Result<RunsRead, Failure>
+) -> Result<TestRuns, Failure>
     requires fits { IsTrue (fits settings.now.target settings.now.fault) }
     requires few { length input.now ≤ 2 ^ 30 }
     ensures plan { IfOk result (λ read. read.plan ≡ read.test) }
     ensures few { IfOk result (λ read. read.runs < 2 ^ 32) }
     ensures ok { IfOk result (λ read. (runs : List (List ℕ))
         × ArePlayedRuns settings.now input.now read.test runs
-        × AreCountedWithin read.test runs read.runs read.tally) }
+        × AreCountedIn read.test runs read.runs read.counts) }
     ensures err { IfErr result (IfRefused (λ refusal. (fault : InputFault)
         × (refusal ≡ Refusal.Input fault) × AreRefusedPlays settings.now input.now fault)) }
 {
@@ -150,10 +151,10 @@ pub(crate) fn read_plays(
     let text = &input[read.used..];
     let line = read.lines + 1;
     let (runs, tally) = count_plays_on_target(alloc, settings, &read.test, &plan, text, line)?;
-    Ok(RunsRead {
+    Ok(TestRuns {
         test: read.test,
         plan,
         runs,
-        tally,
+        counts: Counts::Alone(tally),
     })
 }

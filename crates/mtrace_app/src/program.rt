@@ -3,14 +3,13 @@ ghost use Rattle.std.specs.Prelude.{◌≡◌, ◌≢◌, ◌≤◌, ◌^◌, �
 ghost use Rattle.std.specs.Io.KnownBytes.{Keeps};
 ghost use Rattle.mt_base.specs.Faults.{Rose};
 ghost use Rattle.command_line.specs.declared.meaning.Settings.{Settings};
-ghost use Rattle.command_line.specs.Settings.{HasSettings};
-ghost use Rattle.mtrace_app.specs.declared.refusal.Refusal.{Refusal};
+ghost use Rattle.command_line.specs.Settings.{HasNoSettings, HasSettings};
 ghost use Rattle.mtrace_app.specs.Alarms.{IsAlarmFree};
 ghost use Rattle.mtrace_app.specs.Answering.{IsPut, answer_line};
-ghost use Rattle.mtrace_app.specs.Answers.{IsAnswered, IsDue, IsDueByWords, texts};
+ghost use Rattle.mtrace_app.specs.Answers.{IsAnswered, IsDue, texts};
 ghost use Rattle.mtrace_app.specs.Outputs.{input_of};
 ghost use Rattle.mtrace_app.specs.Outside.{change, IsPastLimit, IsRestOf, IsTold, WhereTold};
-ghost use Rattle.mtrace_app.specs.Refusals.{message, status_of};
+ghost use Rattle.mtrace_app.specs.Refusals.{message};
 ghost use Rattle.mtrace_app.specs.Status.{EndsWith};
 
 use crate::answer::{Answer, answer_words};
@@ -23,8 +22,11 @@ use std::thread::Threads;
 
 /// Answers the words, which stand behind the program's name. A status from 2 on is told by a line to `errs`.
 ///
-/// `check` and `replay` read the source to its end: a test, and recorded runs or schedules of it. `generate` takes nothing. The whole output is
-/// made before it is put to the sink, and each put offers all that is left of it. The other commands aren't built.
+/// `check`, `replay`, `run` and `race` read the source to its end: a test, and for the first two recorded runs or schedules of it. `generate` and `demo` take
+/// nothing. `run` and `demo` play their runs by as many runners as the words say, and signatures are checked by as many workers. Runner `k` tells the
+/// gate `at(k, 0)` before its first run, in each race so does thread `k` of the test, and when all runs are made, so does worker `k` before its first
+/// signature; the gate is told too when a runner holds the turn of the set that runners share. The whole output is made before it is put to the sink, and
+/// each put offers all that is left of it.
 pub fn mtrace<S: Source, K: Sink, E: Sink, G: Gate + Sync>(
     rt: &(impl Threads + Sync),
     alloc: Global,
@@ -42,8 +44,8 @@ pub fn mtrace<S: Source, K: Sink, E: Sink, G: Gate + Sync>(
         (change (K.held sink.old) (K.held sink.new) (K.faults sink.old) (K.faults sink.new)) result line
         × IsTold line (change (E.held errs.old) (E.held errs.new) (E.faults errs.old) (E.faults errs.new)) }
 
-    // What the words alone are refused for is answered before anything is taken or put.
-    ensures by_words { (refusal : Refusal) → IsDueByWords (texts words.now) refusal → EndsWith result (status_of refusal) × (source.new ≡ source.old) × Keeps (K.held sink.old) (K.held sink.new) }
+    // Words without settings are refused before anything is taken or put.
+    ensures by_words { HasNoSettings (texts words.now) → EndsWith result Status.Words × (source.new ≡ source.old) × Keeps (K.held sink.old) (K.held sink.new) }
 
     // Bytes within the limit that are taken without a fault are answered by what they mean.
     // Nothing but want of memory keeps that back.
@@ -52,7 +54,7 @@ pub fn mtrace<S: Source, K: Sink, E: Sink, G: Gate + Sync>(
         → IfSome (input_of s (S.left source.old)) (λ bytes. length bytes ≤ 2 ^ 30
         → IsDue s bytes (change (K.held sink.old) (K.held sink.new) (K.faults sink.old) (K.faults sink.new)) result) }
     // A machine without a fault gives nothing that its own memory model, or a weaker one, forbids.
-    ensures no_alarm { (s : Settings) → HasSettings (texts words.now) s → IsAlarmFree s → IfSome (input_of s (S.left source.old)) (λ bytes. result ≢ Status.Found) }
+    ensures no_alarm { (s : Settings) → HasSettings (texts words.now) s → IsAlarmFree s → result ≢ Status.Found }
     ensures too_large { WhereTold (S.left source.old) (S.left source.new) (λ before now. IsPastLimit before now → result ≡ Status.TooLarge) }
 
     // No more is taken than the limit and a block of 2^16 bytes, and no count of faults falls.
@@ -63,7 +65,7 @@ pub fn mtrace<S: Source, K: Sink, E: Sink, G: Gate + Sync>(
 {
     // The law of no false alarm, for the clause `no_alarm`.
     machines_raise_no_alarm();
-    let answer = answer_words(alloc, words, source);
+    let answer = answer_words(rt, alloc, words, source, gate);
     let status = put_output(&answer, sink);
     let _ = put_all(errs, told(&answer, status));
     status

@@ -8,7 +8,7 @@ ghost use Rattle.test_lang.specs.Values.{load_count};
 ghost use Rattle.run_text.specs.Runs.{reading, ReadsOn};
 ghost use Rattle.signature_plan.specs.Outcomes.{outcome_of};
 ghost use Rattle.mtrace_app.specs.declared.refusal.InputFault.{InputFault};
-ghost use Rattle.mtrace_app.specs.Counted.{AreCountedWithin, FailsBehind};
+ghost use Rattle.mtrace_app.specs.Counted.{AreCountedIn, AreCountedWithin, FailsBehind};
 ghost use Rattle.mtrace_app.specs.Failures.{IfRefused};
 ghost use Rattle.mtrace_app.specs.Inputs.{AreRecordedRuns, AreRefusedRuns, text_behind};
 ghost use Rattle.mtrace_app.specs.Limits.{FitLimits};
@@ -16,23 +16,13 @@ ghost use Rattle.mtrace_app.specs.Limits.{FitLimits};
 use crate::failure::Failure;
 use crate::limits::fit_limits;
 use crate::refusal::Refusal;
+use crate::test_runs::{Counts, TestRuns};
 use run_text::fault::RunFault;
 use run_text::run_lines::RunLines;
 use signature_plan::Plan;
 use std::alloc::{AllocError, Global};
 use tally::{Counter, Tally};
 use test_lang::test::Test;
-
-/// A test, and the runs behind it that were read and counted.
-#[derive(Drop)]
-pub(crate) struct RunsRead {
-    pub(crate) test: Test,
-    pub(crate) plan: Plan,
-    /// The number of the runs.
-    pub(crate) runs: u64,
-    /// How often each outcome occurred; where the runs pass a limit, only among the first of them.
-    pub(crate) tally: Tally,
-}
 
 /// Reads the next run into the buffer, if there is one.
 fn next_run(lines: &mut RunLines<'_>, run: &mut Vec<u32>) -> Result<bool, RunFault>
@@ -93,23 +83,23 @@ fn count_runs(alloc: Global, plan: &Plan, text: &[u8], line: u32) -> Result<(u64
 }
 
 /// The test of an input, and its recorded runs.
-pub(crate) fn read_runs(alloc: Global, input: &[u8]) -> Result<RunsRead, Failure>
+pub(crate) fn read_runs(alloc: Global, input: &[u8]) -> Result<TestRuns, Failure>
     requires { length input.now ≤ 2 ^ 30 }
     ensures plan { IfOk result (λ read. read.plan ≡ read.test) }
     ensures few { IfOk result (λ read. read.runs < 2 ^ 32) }
     ensures ok { IfOk result (λ read. (runs : List (List ℕ))
         × AreRecordedRuns input.now read.test runs
-        × AreCountedWithin read.test runs read.runs read.tally) }
+        × AreCountedIn read.test runs read.runs read.counts) }
     ensures err { IfErr result (IfRefused (λ refusal. (fault : InputFault)
         × (refusal ≡ Refusal.Input fault) × AreRefusedRuns input.now fault)) }
 {
     let read = Test::read(alloc, input)?;
     let plan = Plan::of(alloc, &read.test)?;
     let (runs, tally) = count_runs(alloc, &plan, &input[read.used..], read.lines + 1)?;
-    Ok(RunsRead {
+    Ok(TestRuns {
         test: read.test,
         plan,
         runs,
-        tally,
+        counts: Counts::Alone(tally),
     })
 }

@@ -121,8 +121,6 @@ impl Size {
 pub enum Refusal {
     /// The words have no settings.
     Words,
-    /// The words or the input are of a form that isn't built yet.
-    NotBuilt,
     /// A take from the source failed.
     ReadFault,
     /// The input is out of form.
@@ -140,7 +138,6 @@ impl fmt::Display for Refusal {
     fn fmt<W: fmt::Write>(&self, f: &mut fmt::Formatter<W>) -> fmt::Result {
         match self {
             Refusal::Words => f.write_str("words"),
-            Refusal::NotBuilt => f.write_str("not built"),
             Refusal::ReadFault => f.write_str("read fault"),
             Refusal::Input(fault) => write!(f, "input line {0}: {1}", fault.line, fault.reason),
             Refusal::TooLarge(size) => write!(f, "too large: {size}"),
@@ -155,7 +152,6 @@ impl Refusal {
     {
         match self {
             Refusal::Words => Status::Words,
-            Refusal::NotBuilt => Status::NotBuilt,
             Refusal::ReadFault => Status::ReadFault,
             Refusal::Input(_) => Status::Input,
             Refusal::TooLarge(_) => Status::TooLarge,
@@ -169,7 +165,6 @@ impl Refusal {
     {
         match self {
             Refusal::Words => Ok(CowStr::Borrowed("mtrace: words\n")),
-            Refusal::NotBuilt => Ok(CowStr::Borrowed("mtrace: not built\n")),
             Refusal::ReadFault => Ok(CowStr::Borrowed("mtrace: read fault\n")),
             Refusal::TooLarge(size) => size.line(alloc),
             Refusal::Input(_) => Ok(CowStr::Owned(format!(in alloc; "mtrace: {self}\n")?)),

@@ -21,8 +21,6 @@ pub enum Status {
     Memory = 6,
     /// The input passes a limit.
     TooLarge = 7,
-    /// The words or the input are of a form that isn't built yet.
-    NotBuilt = 8,
 }
 
 impl Status {

@@ -7,9 +7,12 @@ use std::alloc::{AllocError, Global};
 use std::test::Fail;
 use std::thread::Threads;
 
+mod chunks;
 mod drawn;
 mod generated;
 mod plays;
+mod raced;
+mod together;
 
 const STORE_BUFFERING: &str = "mtest 1\nwords 2\nthread\nst 0\nld 1\nthread\nst 1\nld 0\nend\n";
 
@@ -167,7 +170,7 @@ fn leaves(
     line: &str,
 ) -> Result<bool, AllocError> {
     let made = make(rt, alloc, call)?;
-    let may_leave = matches!(status, Status::Words | Status::NotBuilt | Status::ReadFault);
+    let may_leave = matches!(status, Status::Words | Status::ReadFault);
     Ok(
         made.status == status
             && made.output.as_slice() == output.as_bytes()
@@ -736,7 +739,7 @@ fn both_zero(alloc: Global, runs: u32) -> Result<String, AllocError> {
     report(alloc, "sc", runs, lines.as_str(), [0, 1, 0])
 }
 
-const WORDS: [(&str, Status, &str); 7] = [
+const WORDS: [(&str, Status, &str); 6] = [
     ("", Status::Words, "mtrace: words\n"),
     ("check --chunk 0", Status::Words, "mtrace: words\n"),
     ("verify", Status::Words, "mtrace: words\n"),
@@ -747,7 +750,6 @@ const WORDS: [(&str, Status, &str); 7] = [
         Status::Words,
         "mtrace: words\n",
     ),
-    ("race --seed 1", Status::NotBuilt, "mtrace: not built\n"),
 ];
 
 const ZEROS: &str =
@@ -771,30 +773,9 @@ fn passed_words(
     Ok(None)
 }
 
-/// Several signatures in a chunk aren't built, and one alone is.
-fn chunks_of_one(rt: &(impl Threads + Sync), alloc: Global) -> Result<bool, AllocError> {
-    let several = joined(alloc, STORE_BUFFERING, "run 0 0\nrun 0 1\ndone\n", 1, "")?;
-    let call = Call {
-        words: "check",
-        input: several.as_str(),
-        ..CHECK
-    };
-    let line = "mtrace: not built\n";
-    let refuses = leaves(rt, alloc, &call, Status::NotBuilt, "", line)?;
-    let is_read = make(rt, alloc, &call)?.is_read;
-    let output = both_zero(alloc, 1)?;
-    let call = Call {
-        words: "check",
-        input: ZEROS,
-        ..CHECK
-    };
-    Ok(refuses && is_read && leaves(rt, alloc, &call, Status::Found, output.as_str(), "")?)
-}
-
 #[test]
 fn words_and_what_is_not_built(rt: HostRuntime) -> Result<(), Fail> {
     assert_eq!(rt; passed_words(&rt, rt.alloc())?, None);
-    assert!(rt; chunks_of_one(&rt, rt.alloc())?);
     Ok(())
 }
 
@@ -969,7 +950,7 @@ fn faults_of_the_errors_change_no_status(rt: HostRuntime) -> Result<(), Fail> {
     Ok(())
 }
 
-const REFUSALS: [(Refusal, u8, &str); 9] = [
+const REFUSALS: [(Refusal, u8, &str); 8] = [
     (Refusal::Words, 2, "mtrace: words\n"),
     (
         Refusal::Input(InputFault {
@@ -1011,7 +992,6 @@ const REFUSALS: [(Refusal, u8, &str); 9] = [
         7,
         "mtrace: too large: values 9\n",
     ),
-    (Refusal::NotBuilt, 8, "mtrace: not built\n"),
 ];
 
 const NUMBERS: [(Status, u8); 4] = [

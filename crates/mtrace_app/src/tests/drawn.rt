@@ -197,7 +197,7 @@ fn planted_faults(rt: HostRuntime) -> Result<(), Fail> {
 }
 
 /// Words and an input that have no output, the status, and the line.
-const REFUSED: [(&str, &str, Status, &str); 8] = [
+const REFUSED: [(&str, &str, Status, &str); 6] = [
     ("run", "", Status::Input, "input line 1: NoEnd"),
     (
         "run",
@@ -223,13 +223,6 @@ const REFUSED: [(&str, &str, Status, &str); 8] = [
         Status::Words,
         "words",
     ),
-    (
-        "run --chunk 2",
-        STORE_BUFFERING,
-        Status::NotBuilt,
-        "not built",
-    ),
-    ("demo", "", Status::NotBuilt, "not built"),
     (
         "demo --threads 1 --ops 2048 --stores 0 --runs 32769",
         "",
@@ -296,7 +289,11 @@ fn most_drawn_values(rt: HostRuntime) -> Result<(), Fail> {
 }
 
 /// Settings of a generated test and of its runs. The last ones plant faults that are found.
-const GENERATING: [(&str, Status); 7] = [
+const GENERATING: [(&str, Status); 8] = [
+    (
+        "--seed 9 --threads 4 --ops 50 --words 32 --runs 2000 --target weak --model weak --workers 8 --runners 8",
+        Status::Clean,
+    ),
     (
         "--chunk 1 --seed 9 --threads 4 --ops 50 --words 32 --runs 2000 --target weak --model weak",
         Status::Clean,
@@ -325,7 +322,7 @@ const GENERATING: [(&str, Status); 7] = [
 ];
 
 /// The output of a command with options for an input, and its status.
-fn output_for(
+pub(super) fn output_for(
     rt: &(impl Threads + Sync),
     alloc: Global,
     command: &str,

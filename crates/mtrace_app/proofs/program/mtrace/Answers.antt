@@ -1,6 +1,5 @@
-use Rattle.std.proofs.Common.{refl}
+use Rattle.mtrace_app.specs.declared.refusal.Refusal.TheVariants.{Words}
 use Rattle.mtrace_app.specs.Answers.{texts}
-use Rattle.mtrace_app.specs.Outputs.{input_of}
 use Rattle.mtrace_app.specs.Outside.{change}
 use Rattle.mtrace_app.proofs.Answered.{answers, ends_with, told_by, too_large_stays}
 use Rattle.mtrace_app.proofs.Causes.{where_told}
@@ -20,10 +19,10 @@ returns-clause-answered g c =
     )
 
 pub returns-clause-by_words : goal.returns-clause-by_words
-returns-clause-by_words g c = λ refusal due.
-    let h = c.answer_words-answer.ensures.by_words refusal due in
+returns-clause-by_words g c = λ none.
+    let h = c.answer_words-answer.ensures.by_words none in
     let sink = change (g.K.Sink.held c.args.sink.now) (g.K.Sink.held c.put_output-status.new.sink) (g.K.Sink.faults c.args.sink.now) (g.K.Sink.faults c.put_output-status.new.sink) in
-    let ended = ends_with sink c.put_output-status.result refusal c.answer_words-answer.result c.put_output-status.ensures.put h.0 in
+    let ended = ends_with sink c.put_output-status.result Words c.answer_words-answer.result c.put_output-status.ensures.put h.0 in
     (ended.0, h.1, ended.1)
 
 pub returns-clause-complete : goal.returns-clause-complete
@@ -41,7 +40,6 @@ returns-clause-no_alarm g c = λ s settings free.
     not_found (texts c.args.words.now) s source sink c.put_output-status.result c.told.result.now settings (λ bytes text is_clean out. c.machines_raise_no_alarm.ensures (texts c.args.words.now) s bytes text is_clean settings free out)
     (answers sink c.put_output-status.result (texts c.args.words.now) source c.answer_words-answer.result c.told.result.now c.answer_words-answer.ensures.answer c.put_output-status.ensures.put
     c.told.ensures.failed c.told.ensures.other)
-    (input_of s source.before) refl
 
 pub returns-clause-too_large : goal.returns-clause-too_large
 returns-clause-too_large g c =

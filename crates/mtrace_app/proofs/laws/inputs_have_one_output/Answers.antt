@@ -1,5 +1,5 @@
 use Rattle.mtrace_app.proofs.OneReport.{one_output}
-use Rattle.mtrace_app.proofs.laws.inputs_have_one_report.Goals as goal
+use Rattle.mtrace_app.proofs.laws.inputs_have_one_output.Goals as goal
 
 pub returns : goal.returns
 returns c = one_output
