@@ -51,6 +51,12 @@ impl Book {
         &self.tally
     }
 
+    pub(crate) fn into_tally(self) -> Tally
+        ensures { StandsFor result self }
+    {
+        self.tally
+    }
+
     /// Puts the batch of a pass at the end, whole or not at all. `Err` means want of memory.
     pub(crate) fn add(&mut self, pass: u32, batch: &mut Vec<Outcome>) -> Result<(), AllocError>
         ensures added { OnOk result ((self.new ≡ self.old ++ entries pass batch.old.items) × (batch.new.items ≡ [])) }

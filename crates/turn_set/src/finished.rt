@@ -76,6 +76,13 @@ impl Finished {
         self.book.tally()
     }
 
+    /// The tally of the history, which is given up.
+    pub fn into_tally(self) -> Tally
+        ensures { StandsFor result self.history }
+    {
+        self.book.into_tally()
+    }
+
     /// The history: what was added, in the order of the turns, and behind it what was put.
     pub fn history(&self) -> &[Entered]
         ensures { result.now ≡ self.now.history }

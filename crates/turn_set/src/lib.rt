@@ -6,7 +6,7 @@
 //! What is proved:
 //! `SharedSet::try_add` (clauses `added`, `refused`): a batch enters the history whole and in order, behind all that its pass had seen, or not at all; it is refused as busy only where its one
 //! try found the turn taken, and without a turn won. `finish` (clauses `lists`, `others`, `kept`): the history has of each pass just what it added, in order, and nothing else.
-//! `Finished::put` (clauses `added`, `refused`): a batch is put at the end whole, or not at all. `Finished::tally`: it is the tally of the history.
+//! `Finished::put` (clauses `added`, `refused`): a batch is put at the end whole, or not at all. `Finished::tally`, `into_tally`: it is the tally of the history.
 //! The rule that makes it so is `specs/Rule.antt`. That a try ever wins is no clause; `SharedSet::add` alone waits.
 #![tactic(auto)]
 

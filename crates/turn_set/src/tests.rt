@@ -314,7 +314,61 @@ fn eight_threads_add_all_that_they_have(rt: HostRuntime) -> Result<(), Fail> {
         };
         let finished = added_by_plan(&rt, rt.alloc(), 8, plan)?;
         assert_eq!(rt; passes_in_order(finished.history(), 32500), 8);
-        assert_eq!(rt; single(finished.tally()), (260_000, 260_000));
+        assert_eq!(rt; single(&finished.into_tally()), (260_000, 260_000));
     }
+    Ok(())
+}
+
+/// The pass 1 offers a batch of 64 outcomes, and once more where memory was refused. The other one does nothing.
+#[derive(Drop)]
+struct Retrying {
+    alloc: Global,
+    /// Whether the batch was whole after a refusal, and entered in the end.
+    entered: AtomicBool,
+}
+
+impl Retrying {
+    fn offers(&self, set: &SharedSet, pass: &mut Pass, batch: &mut Vec<Outcome>) -> bool
+        requires { IsPassOf set.now pass.old }
+        ensures { IsPassOf set.now pass.new × (pass.new.number ≡ pass.old.number) }
+    {
+        let is_added = match set.try_add(pass, batch, &OpenGate) {
+            Ok(()) => true,
+            Err(_) => batch.len() == 64 && set.try_add(pass, batch, &OpenGate).is_ok(),
+        };
+        is_added && batch.is_empty()
+    }
+}
+
+impl Work for Retrying {
+    fn work(&self, set: &SharedSet, mut pass: Pass) -> Pass {
+        if pass.number() != 1 {
+            return pass;
+        }
+        let made = match batch_of(self.alloc, 1, 0, 64, true) {
+            Ok(batch) => Ok(batch),
+            Err(_) => batch_of(self.alloc, 1, 0, 64, true),
+        };
+        if let Ok(mut batch) = made {
+            let entered = self.offers(set, &mut pass, &mut batch);
+            self.entered.store(entered, Ordering::SeqCst);
+        }
+        pass
+    }
+}
+
+/// With memory that isn't refused this says that a batch enters; `tools/faults.py` runs it with each request refused in turn.
+#[test]
+fn refused_batch_is_whole_and_enters_once(rt: HostRuntime) -> Result<(), Fail> {
+    let (set, passes) = SharedSet::new(rt.alloc(), 2)?;
+    let retrying = Retrying {
+        alloc: rt.alloc(),
+        entered: AtomicBool::new(false),
+    };
+    let passes = in_threads(&rt, &set, passes, &retrying)?;
+    let finished = finish(set, passes);
+    assert!(rt; retrying.entered.load(Ordering::SeqCst));
+    assert_eq!(rt; passes_in_order(finished.history(), 64), 1);
+    assert_eq!(rt; single(finished.tally()), (64, 64));
     Ok(())
 }
