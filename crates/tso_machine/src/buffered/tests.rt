@@ -23,33 +23,42 @@ fn stores_in_turn(alloc: Global) -> Result<Test, AllocError> {
     Ok(test)
 }
 
-/// Takes the step so often, and answers whether it was enabled each time.
-fn takes_all(machine: &mut Buffered, step: Step) -> bool {
-    for _ in 0..MAX_OPS {
-        if !machine.enabled(step) {
-            return false;
-        }
+/// Takes the step if it is enabled.
+fn take(machine: &mut Buffered, step: Step) -> bool {
+    let enabled = machine.enabled(step);
+    if enabled {
         machine.step(step);
     }
-    true
+    enabled
 }
 
+/// Puts all stores into the buffer, and drains them from the oldest or from the newest on. Answers whether each step was enabled.
+fn drains(machine: &mut Buffered, newest: bool) -> bool {
+    let mut good = true;
+    for _ in 0..MAX_OPS {
+        good &= take(machine, Step::Execute { thread: 0 });
+    }
+    good &= machine.playing.values() == [0, 0, 0, 0].as_slice();
+    for drained in 0..MAX_OPS {
+        let place = if newest { MAX_OPS - 1 - drained } else { 0 };
+        good &= take(machine, Step::Drain { thread: 0, place });
+    }
+    good
+}
+
+/// The stores that are drained last stay: in order these are the last ones, and from the newest on the first.
 #[test]
-fn buffer_of_all_operations_is_drained_in_order(rt: HostRuntime) -> Result<(), Fail> {
+fn buffer_of_all_operations_is_drained_from_each_end(rt: HostRuntime) -> Result<(), Fail> {
     let test = stores_in_turn(rt.alloc())?;
-    let mut machine = Buffered::new(rt.alloc(), &test, StoreOrder::Total, Fault::None)?;
-    assert!(rt; takes_all(&mut machine, Step::Execute { thread: 0 }));
-    assert!(rt; machine.playing.values() == [0, 0, 0, 0].as_slice());
-    assert!(rt;
-        takes_all(
-            &mut machine,
-            Step::Drain {
-                thread: 0,
-                place: 0
-            }
-        )
-    );
-    assert!(rt; machine.done());
-    assert!(rt; machine.playing.values() == [2045, 2046, 2047, 2048].as_slice());
+    for (fault, newest, values) in [
+        (Fault::None, false, [2045, 2046, 2047, 2048]),
+        (Fault::Unordered, false, [2045, 2046, 2047, 2048]),
+        (Fault::Unordered, true, [1, 2, 3, 4]),
+    ] {
+        let mut machine = Buffered::new(rt.alloc(), &test, StoreOrder::Total, fault)?;
+        assert!(rt; drains(&mut machine, newest));
+        assert!(rt; machine.done());
+        assert!(rt; machine.playing.values() == values.as_slice());
+    }
     Ok(())
 }
