@@ -1,7 +1,7 @@
 //! Tests of plays: what they may do, in which order the choices stand, and what the loads give.
 
 use crate::WeakMachine;
-use sim_core::Machine;
+use sim_core::{Machine, no_false_alarm};
 use std::alloc::{AllocError, Global};
 use std::process::Abort;
 use std::test::Fail;
@@ -339,6 +339,7 @@ fn gives(machine: &WeakMachine, loads: &[u32]) -> bool {
 
 fn check(rt: &impl Abort, machine: &mut WeakMachine, case: &Case) {
     assert!(rt; play(machine, case.steps) == case.refused);
+    no_false_alarm(machine);
     assert!(rt; gives(machine, case.loads));
     assert!(rt; has_choices(rt, machine, case.choices));
     assert!(rt; machine.done() == case.choices.is_empty());
