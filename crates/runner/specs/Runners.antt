@@ -1,5 +1,5 @@
 -- Runners: what they have at first, and what comes of their runs.
-use Rattle.std.specs.Prelude.{◌≡◌, ◌≢◌, ◌⊎◌, ℕ, zero, suc, pred, ◌<◌, ◌≤◌, List, [], ◌∷◌, ◌++◌, map, length, false, Some, slice_get, slice_index, slice_index_or}
+use Rattle.std.specs.Prelude.{◌≡◌, ◌≢◌, ◌⊎◌, ℕ, zero, suc, pred, ◌+◌, ◌<◌, ◌≤◌, List, [], ◌∷◌, ◌++◌, map, length, false, Some, slice_get, slice_index, slice_index_or}
 use Rattle.tally.specs.declared.entered.Entered.{Entered}
 use Rattle.tally.specs.declared.outcome.Outcome.{Outcome}
 use Rattle.tally.specs.Histories.{added_by}
@@ -39,10 +39,11 @@ pub record IsReady {M : Type 0} (setup_at : M → Setup) (job : Job) (set : SetI
   pub setup : setup_at task.machine ≡ setup_of job
   pub words : length task.words.items ≡ length (groups job.test.now)
 
--- the batch went into the pass's list, or it stays, and the pass was told that the turn was taken
+-- one try was made: the batch went into the pass's list, or it stays, and the pass was told that the turn was taken
 pub record IsOffered (before : PassState) (batch : List Outcome) (after : PassState) (left : List Outcome) : Type 0 where
   pub all : after.list ++ left ≡ before.list ++ batch
   pub late : (left ≡ []) ⊎ (1 ≤ after.busy)
+  pub once : after.turns + after.busy ≡ before.turns + before.busy + 1
 
 -- unless memory was refused, what its pass added and what is left are the outcomes of its runs, and some is left only where the pass was told that the turn was taken
 pub record HasRun (job : Job) (set : SetIdentity) (runners k : ℕ) (ran : Ran) : Type 0 where

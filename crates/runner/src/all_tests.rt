@@ -24,6 +24,18 @@ const NO_RUN: Case = Case {
     entries: [0; 8],
 };
 
+const ONE_LESS_THAN_FULL: Case = Case {
+    runs: 63,
+    runners: 1,
+    entries: [63, 0, 0, 0, 0, 0, 0, 0],
+};
+
+const FULL_ONCE: Case = Case {
+    runs: 64,
+    runners: 1,
+    entries: [64, 0, 0, 0, 0, 0, 0, 0],
+};
+
 const ONE_RUNNER: Case = Case {
     runs: 200,
     runners: 1,
@@ -106,12 +118,13 @@ fn runners_give_the_tally_of_one_thread(rt: HostRuntime) -> Result<(), Fail> {
     Ok(())
 }
 
-/// How often the gate was called, and the sum of 2 to the number of each runner that called it, and of the pieces; and how often the turn was held.
+/// How often the gate was called, and the sum of 2 to the number of each runner that called it, of the pieces, and of the turns before; and how often the turn was held.
 #[derive(Drop)]
 struct CountingGate {
     calls: AtomicU64,
     runners: AtomicU64,
     pieces: AtomicU64,
+    before: AtomicU64,
     turns: AtomicU64,
 }
 
@@ -121,6 +134,8 @@ impl Gate for CountingGate {
         self.calls.fetch_add(1, Ordering::SeqCst);
         self.runners.fetch_add(bit, Ordering::SeqCst);
         self.pieces.fetch_add(u64::from(piece), Ordering::SeqCst);
+        let turns = self.turns.load(Ordering::SeqCst);
+        self.before.fetch_add(turns, Ordering::SeqCst);
     }
 
     fn held(&self, _worker: u32) {
@@ -128,12 +143,13 @@ impl Gate for CountingGate {
     }
 }
 
-/// How often the turn was held, where each runner called the gate once.
+/// How often the turn was held, where each runner called the gate once, and the one runner that there is did so before its first turn.
 fn turns<R: Threads + Sync>(rt: &R, alloc: Global, case: Case) -> Result<Option<u64>, AllocError> {
     let gate = CountingGate {
         calls: AtomicU64::new(0),
         runners: AtomicU64::new(0),
         pieces: AtomicU64::new(0),
+        before: AtomicU64::new(0),
         turns: AtomicU64::new(0),
     };
     let is_done = is_done(rt, alloc, Target::Sc, case, &gate)?;
@@ -144,7 +160,8 @@ fn turns<R: Threads + Sync>(rt: &R, alloc: Global, case: Case) -> Result<Option<
     };
     let is_told = gate.calls.load(Ordering::SeqCst) == u64::from(case.runners)
         && gate.runners.load(Ordering::SeqCst) == each_once
-        && gate.pieces.load(Ordering::SeqCst) == 0;
+        && gate.pieces.load(Ordering::SeqCst) == 0
+        && (case.runners > 1 || gate.before.load(Ordering::SeqCst) == 0);
     Ok(if is_done && is_told {
         Some(gate.turns.load(Ordering::SeqCst))
     } else {
@@ -152,11 +169,17 @@ fn turns<R: Threads + Sync>(rt: &R, alloc: Global, case: Case) -> Result<Option<
     })
 }
 
-/// One runner adds batches of 64, 64, 64 and 8, and an empty one where it has no run.
+/// One runner adds batches of 64, 64, 64 and 8; one of 63; one of 64 and an empty one; and an empty one where it has no run.
 #[test]
 fn each_runner_calls_the_gate_once(rt: HostRuntime) -> Result<(), Fail> {
-    assert_eq!(rt; turns(&rt, rt.alloc(), ONE_RUNNER)?, Some(4));
-    assert_eq!(rt; turns(&rt, rt.alloc(), NO_RUN)?, Some(1));
+    for (case, held) in [
+        (ONE_RUNNER, 4),
+        (ONE_LESS_THAN_FULL, 1),
+        (FULL_ONCE, 2),
+        (NO_RUN, 1),
+    ] {
+        assert_eq!(rt; turns(&rt, rt.alloc(), case)?, Some(held));
+    }
     for case in [TWO_RUNNERS, EIGHT_RUNNERS, FEWER_RUNS_THAN_RUNNERS] {
         assert!(rt; turns(&rt, rt.alloc(), case)?.is_some());
     }

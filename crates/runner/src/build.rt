@@ -11,7 +11,7 @@ use test_lang::test::Test;
 use tso_machine::{PsoMachine, TsoMachine};
 use weak_machine::WeakMachine;
 
-/// A machine that is made for a test and a fault.
+/// A machine of one target, as `run_all` and `run_one` make it for their job.
 pub(crate) trait Build: Machine + Send + Drop {
     /// Which machine it is.
     ghost kind: { Target };

@@ -61,7 +61,7 @@ fn offer<G: Gate>(
     }
 }
 
-/// Offers the batch once where it is full. `Err` means want of memory.
+/// Offers the batch once where it is full, and otherwise not. `Err` means want of memory.
 fn offer_full<G: Gate>(
     set: &SharedSet,
     pass: &mut Pass,
@@ -71,6 +71,8 @@ fn offer_full<G: Gate>(
     requires { IsPassOf set.now pass.old }
     ensures same { IsPassOf set.now pass.new × (pass.new.number ≡ pass.old.number) }
     ensures all { OnOk result (pass.new.list ++ batch.new.items ≡ pass.old.list ++ batch.old.items) }
+    ensures full { 64 ≤ length batch.old.items → OnOk result (IsOffered pass.old batch.old.items pass.new batch.new.items) }
+    ensures few { length batch.old.items < 64 → (pass.new ≡ pass.old) × (batch.new.items ≡ batch.old.items) }
 {
     if batch.len() < FULL {
         return Ok(());
