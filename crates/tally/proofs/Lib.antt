@@ -1,5 +1,6 @@
 pub mod Each
 pub mod Growing
+pub mod Joining
 pub mod OneTally
 pub mod PlacedRows
 pub mod Putting

@@ -1,11 +1,12 @@
 //! How often each outcome occurred.
-ghost use Rattle.std.specs.Prelude.{◌≡◌, ℕ, ◌+◌, ◌-◌, ◌^◌, ◌<◌, ◌≤◌, List, [], ◌∷◌, ◌++◌, length, OnOk, IfErr};
+ghost use Rattle.std.specs.Prelude.{◌≡◌, ℕ, ◌+◌, ◌-◌, ◌^◌, ◌<◌, ◌≤◌, List, [], ◌∷◌, ◌++◌, length, OnErr, OnOk, IfErr};
 ghost use Rattle.std.specs.Bool.{OnTrue, OnFalse};
 ghost use Rattle.tally.specs.declared.outcome.Outcome.{Outcome};
+ghost use Rattle.tally.specs.Joining.{HasSomeOf, with_counts};
 ghost use Rattle.tally.specs.Tallies.{IsCounts, IsTally, count_of, total_of, with_more, with_one_less, with_one_more};
 
 use crate::outcome::Outcome;
-use std::alloc::Global;
+use std::alloc::{AllocError, Global};
 use std::collections::{BTreeMap, btree_map};
 use std::marker::Model;
 
@@ -85,6 +86,37 @@ impl Tally {
         add_times(&mut self.counts, outcome, times)?;
         self.total += times;
         Ok(())
+    }
+
+    /// Counts the places of all outcomes of another tally too, whose outcomes become its own.
+    /// `Err` means want of memory; then those of a front of the other tally's pairs are counted, and no others.
+    pub fn join(&mut self, other: Tally) -> Result<(), AllocError>
+        requires { total_of self.old + total_of other < 2 ^ 64 }
+        ensures joined { OnOk result (self.new ≡ with_counts self.old other) }
+        ensures total { OnOk result (total_of self.new ≡ total_of self.old + total_of other) }
+        // The tally of a list becomes the tally of the list with the other one behind it.
+        ensures tally { OnOk result ((before after : List Outcome) → IsTally before self.old →
+            IsTally after other → IsTally (before ++ after) self.new) }
+        ensures refused { OnErr result (HasSomeOf other self.old self.new) }
+    {
+        for (outcome, times) in other.counts {
+            self.count_on(outcome, times)?;
+        }
+        Ok(())
+    }
+
+    /// Counts so many more places of the outcome. `Err` means want of memory, and the tally is as before.
+    fn count_on(&mut self, outcome: Outcome, times: u64) -> Result<(), AllocError>
+        requires room { total_of self.old + times < 2 ^ 64 }
+        requires some { 1 ≤ times }
+        ensures added { OnOk result (self.new ≡ with_more self.old outcome times) }
+        ensures refused { OnErr result (self.new ≡ self.old) }
+        ensures sound { IsCounts self.old }
+    {
+        match self.add_times(outcome, times) {
+            Ok(()) => Ok(()),
+            Err(_) => Err(AllocError),
+        }
     }
 
     /// Counts so many more places of the outcome if it is there, and says whether it is. It takes no memory.

@@ -199,3 +199,49 @@ fn what_is_taken_back_is_counted_no_more(rt: HostRuntime) -> Result<(), Fail> {
     }
     Ok(())
 }
+
+/// Outcomes of two tallies, and what the first one has once the second is counted too.
+const JOINED: [(&[Row], &[Row], &str); 4] = [
+    (&[], &[], "0:"),
+    (
+        &[Row::Inside(&[2]), Row::Outside(3, 1)],
+        &[],
+        "2: [2] 1; 3 1 1;",
+    ),
+    (&[], &[Row::Inside(&[2]), Row::Inside(&[2])], "2: [2] 2;"),
+    (
+        &[Row::Inside(&[2]), Row::Outside(3, 1), Row::Inside(&[2])],
+        &[
+            Row::Outside(3, 1),
+            Row::Inside(&[1]),
+            Row::Outside(3, 1),
+            Row::Inside(&[2]),
+        ],
+        "7: [1] 1; [2] 3; 3 1 3;",
+    ),
+];
+
+fn tally_of(alloc: Global, rows: &[Row]) -> Result<Tally, AllocError> {
+    let mut tally = Tally::new(alloc);
+    add_all(alloc, &mut tally, rows)?;
+    Ok(tally)
+}
+
+/// The tally of two lists, by joining their tallies where the sum of the totals has room.
+fn joined(alloc: Global, before: &[Row], after: &[Row]) -> Result<Tally, AllocError> {
+    let mut tally = tally_of(alloc, before)?;
+    let other = tally_of(alloc, after)?;
+    if tally.total() <= u64::MAX - other.total() {
+        tally.join(other)?;
+    }
+    Ok(tally)
+}
+
+#[test]
+fn joined_tallies_have_what_both_had(rt: HostRuntime) -> Result<(), Fail> {
+    for (before, after, text) in &JOINED {
+        let tally = joined(rt.alloc(), before, after)?;
+        assert_eq!(rt; shown(rt.alloc(), &tally)?.as_str(), *text);
+    }
+    Ok(())
+}
