@@ -9,6 +9,9 @@ pub mod Ended
 pub mod Turns
 pub mod Runs
 pub mod Calls
+pub mod PiecesRead
+pub mod PieceCalls
+pub mod Cutting
 pub mod NextLines
 pub mod StepTexts
 pub mod ScheduleForms

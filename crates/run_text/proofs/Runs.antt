@@ -8,6 +8,7 @@ use Rattle.run_text.specs.Reader.{Reader, Turn, behind, turn}
 use Rattle.run_text.specs.Grammar.{CallMeans}
 use Rattle.run_text.specs.Runs.{AreRunsOf, line_of_run, runs_text, with_run, with_runs, go_on, reading_by, reading, IsLineOfRun, RunsMean}
 use Rattle.run_text.specs.Items.{AreLinesOf, IsTextOf}
+use Rattle.run_text.specs.Pieces.{behind_lines}
 use Rattle.run_text.proofs.Meaning.{turn_means, means_turn}
 use Rattle.run_text.proofs.Turns.{IsRunNext, turn-run, turn-done, run-shorter, run-turn, done-turn}
 
@@ -67,10 +68,6 @@ text_is_runs loads runs text rest = (
   λ h. let lines = lines_of_runs loads runs h.lines h.each in (lines.0, h.whole ∙ ap (λ (ls : List (List ℕ)). closed (ls ++ codes "done" ∷ []) ++ rest) lines.1),
   λ h. record { lines = map line_of_run runs; each = runs_in_lines loads runs h.0; whole = h.1 },
 )
-
--- the reader behind so many lines
-abbrev behind_lines : Reader → ℕ → List ℕ → Reader
-behind_lines r lines left = record { left = left; line = r.line + lines; loads = r.loads; is_done = false }
 
 -- From reading to meaning.
 

@@ -5,6 +5,8 @@ pub mod Reader
 pub mod Grammar
 pub mod Items
 pub mod Runs
+pub mod Pieces
+pub mod InPiece
 pub mod NextLine
 pub mod Steps
 pub mod ReadSteps

@@ -1,5 +1,8 @@
 //! How a text of runs or of schedules is refused.
+ghost use Rattle.std.specs.Prelude.{◌≡◌, ◌+◌, ◌^◌, ◌<◌};
+ghost use Rattle.run_text.specs.Pieces.{line_of, moved};
 
+use std::alloc::AllocError;
 use thiserror::Error;
 
 /// The refusal of a text of runs or of schedules: that of its first bad line, whose number counts from the first line of
@@ -25,4 +28,36 @@ pub enum RunFault {
     /// Want of memory.
     #[error("out of memory")]
     Memory,
+}
+
+impl From<AllocError> for RunFault {
+    ghost use Rattle.std.specs.Prelude.{◌≡◌};
+    ghost use Rattle.run_text.specs.declared.fault.RunFault.TheVariants.{Memory};
+
+    ghost from_gives = { λ _ fault. fault ≡ Memory };
+
+    fn from(_error: AllocError) -> RunFault {
+        RunFault::Memory
+    }
+}
+
+impl RunFault {
+    /// The same refusal where so many more lines stand before the text.
+    pub fn moved(self, lines: u32) -> RunFault
+        requires { lines + line_of self < 2 ^ 32 }
+        ensures { result ≡ moved lines self }
+    {
+        match self {
+            RunFault::BadRunLine { line } => RunFault::BadRunLine { line: lines + line },
+            RunFault::WrongCount { line, want, got } => RunFault::WrongCount {
+                line: lines + line,
+                want,
+                got,
+            },
+            RunFault::ValueRange { line } => RunFault::ValueRange { line: lines + line },
+            RunFault::NoDone { line } => RunFault::NoDone { line: lines + line },
+            RunFault::AfterDone { line } => RunFault::AfterDone { line: lines + line },
+            RunFault::Memory => RunFault::Memory,
+        }
+    }
 }

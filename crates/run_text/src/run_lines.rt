@@ -1,13 +1,16 @@
 //! A reader of run lines, up to the line `done`: one pass over the bytes, and no memory but that of the values.
-ghost use Rattle.std.specs.Prelude.{◌≡◌, ◌+◌, ◌^◌, ◌<◌, Result, Ok, false, length};
+ghost use Rattle.std.specs.Prelude.{◌≡◌, ◌+◌, ◌^◌, ◌<◌, ◌≤◌, Result, Ok, false, length, IfErr};
 ghost use Rattle.std.specs.Bool.{OnFalse, OnTrue};
 ghost use Rattle.run_text.specs.declared.fault.RunFault.{RunFault};
 ghost use Rattle.run_text.specs.Reader.{Turn, Gives, turn};
 ghost use Rattle.run_text.specs.Grammar.{CallMeans};
 ghost use Rattle.run_text.specs.Runs.{ReadsOn};
+ghost use Rattle.run_text.specs.Pieces.{line_of};
+ghost use Rattle.run_text.specs.InPiece.{GivesInPiece, ReadsInPiece};
 
 use crate::fault::RunFault;
 use crate::next_line::next_line;
+use crate::piece_turn::PieceTurn;
 use crate::run_line::read_run;
 use std::marker::Model;
 
@@ -75,6 +78,31 @@ impl<'a> RunLines<'a> {
             × (values.new.items ≡ values.old.items) × (self.new ≡ self.old)) }
     {
         self.step(values)
+    }
+
+    /// Reads the next line where the bytes are a piece of a text: as `next`, but a piece may end without `done`.
+    /// A refusal changes nothing.
+    pub fn next_in_piece(&mut self, values: &mut Vec<u32>) -> Result<PieceTurn, RunFault>
+        // Where a byte is left the call is that of the next line.
+        ensures exact { GivesInPiece result values.old.items values.new.items self.old self.new }
+        // What a call tells of reading the piece, for a loop that reads on.
+        ensures reads_on { ReadsInPiece result values.old.items values.new.items self.old self.new }
+        ensures line { IfErr result (λ fault. line_of fault ≤ self.old.line + length self.old.left) }
+    {
+        self.step_in_piece(values)
+    }
+
+    fn step_in_piece(&mut self, values: &mut Vec<u32>) -> Result<PieceTurn, RunFault>
+        ensures { GivesInPiece result values.old.items values.new.items self.old self.new }
+    {
+        if self.left.is_empty() {
+            return Ok(PieceTurn::End);
+        }
+        if self.step(values)? {
+            Ok(PieceTurn::Run)
+        } else {
+            Ok(PieceTurn::Done)
+        }
     }
 
     fn step(&mut self, values: &mut Vec<u32>) -> Result<bool, RunFault>
