@@ -17,10 +17,8 @@ use Rattle.mtrace_app.specs.declared.refusal.InputFault.{InputFault}
 use Rattle.mtrace_app.specs.declared.refusal.Refusal.{Refusal}
 use Rattle.mtrace_app.specs.declared.refusal.Refusal.TheVariants.{Input}
 use Rattle.mtrace_app.specs.declared.refusal.Size.{Size}
-use Rattle.mtrace_app.specs.declared.test_runs.Counts.{Counts}
-use Rattle.mtrace_app.specs.declared.test_runs.Counts.TheVariants.{Alone}
 use Rattle.mtrace_app.specs.Answers.{IsTooLarge, RefusesInput}
-use Rattle.mtrace_app.specs.Counted.{AreCounted, AreCountedIn, AreCountedWithin, IsTallyIn}
+use Rattle.mtrace_app.specs.Counted.{AreCounted, AreCountedWithin}
 use Rattle.mtrace_app.specs.Failures.{IfRefused}
 use Rattle.mtrace_app.specs.Inputs.{IsRecorded, IsRefusedInput}
 use Rattle.mtrace_app.specs.Limits.{FitLimits, PassLimit}
@@ -51,10 +49,6 @@ pub refused_more : (failure : Failure) (P Q : Refusal → Type 0) → ((refusal 
 refused_more (Refused refusal) P Q more h = more refusal h
 refused_more Memory P Q more h = tt
 
--- runs that one thread counted
-pub counted_alone : (p : Program) (runs : List (List ℕ)) (count : ℕ) (tally : List (Outcome × ℕ)) → AreCountedWithin p runs count tally → AreCountedIn p runs count (Alone tally)
-counted_alone p runs count tally h = record { number = h.number; counted = λ fit pairs same. subst (AreCounted p runs count) (sym same) (h.counted fit) }
-
 -- ---- the report of counted runs
 
 -- the report that is made of verdicts and work
@@ -84,7 +78,7 @@ module _ (s : Settings) (bytes : List ℕ) where
   refuses_input (Refused refusal) h = subst (RefusesInput s bytes) (sym h.1) h.2
   refuses_input Memory h = tt
 
-  module _ (p : Program) (runs : List (List ℕ)) (count : ℕ) (counts : Counts) (read : IsRecorded s bytes p runs) (counted : AreCountedIn p runs count counts) where
+  module _ (p : Program) (runs : List (List ℕ)) (count : ℕ) (tally : List (Outcome × ℕ)) (read : IsRecorded s bytes p runs) (counted : AreCountedWithin p runs count tally) where
     -- recorded runs that pass a limit
     pub too_large : (loads : ℕ) (size : Size) → loads ≡ load_count p → PassLimit count loads size → IsTooLarge s bytes size
     too_large loads size same pass = (p, count, (runs, read, counted.number), subst (λ (n : ℕ). PassLimit count n size) same pass)
@@ -96,8 +90,8 @@ module _ (s : Settings) (bytes : List ℕ) where
       fit_runs : FitLimits (length runs) (load_count p)
       fit_runs = subst (λ (n : ℕ). FitLimits n (load_count p)) counted.number fit_here
 
-      pub counted_here : (tally : List (Outcome × ℕ)) → IsTallyIn counts tally → AreCounted p runs count tally
-      counted_here tally here = counted.counted fit_here tally here
+      pub counted_here : AreCounted p runs count tally
+      counted_here = counted.counted fit_here
 
       -- all other recorded runs
       pub output_here : (text : List ℕ) (is_clean : Bool) → IsTrue (reports s.command) → IsReportIn (form_of s.command) s.model s.chunk p runs text is_clean → IsOutputOf s bytes text is_clean

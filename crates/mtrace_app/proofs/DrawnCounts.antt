@@ -8,17 +8,16 @@ use Rattle.test_lang.specs.Program.{Program}
 use Rattle.test_lang.specs.Runs.{IsRun}
 use Rattle.test_lang.specs.Values.{load_count}
 use Rattle.signature_plan.specs.Outcomes.{outcome_of}
-use Rattle.sim_core.proofs.DrawnPlays.{one_drawn_runs, some_drawn_runs}
+use Rattle.sim_core.proofs.DrawnPlays.{some_drawn_runs}
 use Rattle.command_line.specs.declared.meaning.Settings.{Settings}
-use Rattle.mtrace_app.specs.declared.test_runs.Counts.{Counts}
-use Rattle.mtrace_app.specs.Counted.{AreCounted, AreCountedIn, IsTallyIn}
+use Rattle.mtrace_app.specs.Counted.{AreCounted, AreCountedWithin}
 use Rattle.mtrace_app.specs.Inputs.{AreRunsDrawn, setup_of}
 use Rattle.mtrace_app.specs.Limits.{FitLimits}
 use Rattle.mtrace_app.proofs.Meanings.{tallied_mean}
 
--- the drawn runs, and these counts of them
-abbrev pub AreDrawnAndCounted : Settings → Program → ℕ → Counts → Type 0
-AreDrawnAndCounted s p count counts = (runs : List (List ℕ)) × AreRunsDrawn s p runs × AreCountedIn p runs count counts
+-- the drawn runs, and their counts
+abbrev pub AreDrawnAndCounted : Settings → Program → ℕ → List (Outcome × ℕ) → Type 0
+AreDrawnAndCounted s p count tally = (runs : List (List ℕ)) × AreRunsDrawn s p runs × AreCountedWithin p runs count tally
 
 -- the pairs are the tally of the runs that the settings draw
 pub record IsTallyOfDrawn (s : Settings) (p : Program) (pairs : List (Outcome × ℕ)) : Type 0 where
@@ -35,26 +34,17 @@ not_fit false e h = cc
 
 module _ (s : Settings) (p : Program) where
   -- runs that pass a limit are there, and needn't be counted
-  pub passed : (counts : Counts) → (FitLimits s.runs (load_count p) → ⊥) → AreDrawnAndCounted s p s.runs counts
-  passed counts many =
+  pub passed : (tally : List (Outcome × ℕ)) → (FitLimits s.runs (load_count p) → ⊥) → AreDrawnAndCounted s p s.runs tally
+  passed tally many =
       let drawn = some_drawn_runs (setup_of s p) s.gen_settings.seed s.runs in
       (drawn.0, drawn.1, record { number = sym drawn.1.number; counted = λ fit. absurd (many fit) })
 
-  counted : (pairs : List (Outcome × ℕ)) (h : IsTallyOfDrawn s p pairs) → AreCounted p h.runs s.runs pairs
-  counted pairs h = record { number = sym h.drawn.number; counts = h.counts; sum = h.total ∙ sym h.drawn.number; meant = tallied_mean p h.runs pairs h.each h.counts }
-
-  -- each tally that is in the counts is that of the same runs, since there is one list of them
-  pub each_tally : (counts : Counts) → ((pairs : List (Outcome × ℕ)) → IsTallyIn counts pairs → IsTallyOfDrawn s p pairs) → AreDrawnAndCounted s p s.runs counts
-  each_tally counts each =
-      let setup = setup_of s p in
-      let seed = s.gen_settings.seed in
-      let drawn = some_drawn_runs setup seed s.runs in (
-        drawn.0,
-        drawn.1,
-        record {
-          number = sym drawn.1.number;
-          counted = λ fit pairs there.
-              let h = each pairs there in
-              subst (λ (runs : List (List ℕ)). AreCounted p runs s.runs pairs) (one_drawn_runs setup seed s.runs h.runs drawn.0 h.drawn drawn.1) (counted pairs h);
-        },
-      )
+  pub tallied : (pairs : List (Outcome × ℕ)) → IsTallyOfDrawn s p pairs → AreDrawnAndCounted s p s.runs pairs
+  tallied pairs h = (
+    h.runs,
+    h.drawn,
+    record {
+      number = sym h.drawn.number;
+      counted = λ fit. record { number = sym h.drawn.number; counts = h.counts; sum = h.total ∙ sym h.drawn.number; meant = tallied_mean p h.runs pairs h.each h.counts };
+    },
+  )

@@ -22,6 +22,7 @@ pub mod RacedInputs
 pub mod ByCommand
 pub mod OneSettings
 pub mod Causes
+pub mod OtherCrews
 pub mod NoAlarm
 pub mod RacesChecked
 pub mod Answered

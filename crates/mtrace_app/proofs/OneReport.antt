@@ -1,8 +1,9 @@
 -- Recorded runs have one report: its text, and whether it is clean.
-use Rattle.std.proofs.Common.{◌≡◌, ◌∙◌, ℕ, List, [], ◌∷◌, ◌++◌, Bool, cond, map, length, refl, sym, ap, subst, arith}
+use Rattle.std.proofs.Common.{◌≡◌, ◌∙◌, ℕ, List, [], ◌∷◌, ◌++◌, Bool, append_assoc, cond, map, length, refl, sym, ap, subst, arith}
 use Rattle.std.specs.Prelude.{IsTrue, count_by, codes, filter, not, ◌&&◌}
 use Rattle.std.specs.Fmt.{decimal}
 use Rattle.std.specs.List.{flat_map, sum_by, zip}
+use Rattle.std.proofs.lemmas.List.Elements.{filter-append}
 use Rattle.std.proofs.lemmas.List.Sums.{sum_by-cons}
 use Rattle.orders.proofs.OneCycle.{one_canonical}
 use Rattle.tally.specs.declared.outcome.Outcome.{Outcome}
@@ -12,11 +13,12 @@ use Rattle.test_lang.specs.Edges.{Edge}
 use Rattle.test_lang.specs.Program.{Program}
 use Rattle.test_lang.specs.Text.Line.{closed}
 use Rattle.test_lang.specs.Text.Numeral.{part}
+use Rattle.test_lang.proofs.TextLemmas.Lines.{closed-append}
 use Rattle.signature_plan.specs.Outcomes.{outcome_of}
 use Rattle.verdict_report.specs.declared.report.Judged.{Judged}
 use Rattle.verdict_report.specs.declared.report.Judged.TheVariants.{Ok, Cycle}
 use Rattle.verdict_report.specs.declared.report.Work.{Work}
-use Rattle.verdict_report.specs.Lines.{head_lines, named, signatures, outsides, outside_line, signature_line, cycle_of, verdict_text, is_ok, is_cycle, sum_line, work_line, report_lines_of, tells_outcome, has_cycle, has_outside}
+use Rattle.verdict_report.specs.Lines.{head_lines, named, outcome_lines, sum_line_of, signatures, outsides, outside_line, signature_line, cycle_of, verdict_text, is_ok, is_cycle, sum_line, work_line, report_lines_of, tells_outcome, has_cycle, has_outside}
 use Rattle.verdict_report.specs.Numbers.{signature_text}
 use Rattle.chunk_pool.specs.Verdicts.{IsJudged, IsVerdict}
 use Rattle.chunk_pool.proofs.OneWork.{one_work}
@@ -113,6 +115,59 @@ module _ (model : MemModel) (runs : ℕ) (tally : List (Outcome × ℕ)) (work :
       → text_in form model runs (record { tally = tally; verdicts = found; work = work }) ≡ text_in form model runs (record { tally = tally; verdicts = others; work = work })
   same_text Whole found others h = ap closed (same_report_lines found others h)
   same_text Summary found others h = ap (λ (ls : List (List ℕ)). closed (filter (λ line. not (tells_outcome line)) ls)) (same_report_lines found others h)
+
+-- ---- the lines before the last, which tells the work
+
+front_lines : MemModel → ℕ → List (Outcome × ℕ) → List Judged → List (List ℕ)
+front_lines model runs tally found = head_lines model runs ++ outcome_lines tally found ++ sum_line_of tally found ∷ []
+
+front_in : Form → MemModel → ℕ → List (Outcome × ℕ) → List Judged → List ℕ
+front_in Whole model runs tally found = closed (front_lines model runs tally found)
+front_in Summary model runs tally found = closed (filter (λ line. not (tells_outcome line)) (front_lines model runs tally found))
+
+lines_split : (model : MemModel) (runs : ℕ) (tally : List (Outcome × ℕ)) (found : List Judged) (work : Work) → report_lines_of model runs tally found work ≡ front_lines model runs tally found ++ work_line work ∷ []
+unfolding front_lines
+lines_split model runs tally found work =
+    ap (λ (ls : List (List ℕ)). head_lines model runs ++ ls) (sym (append_assoc (outcome_lines tally found) (sum_line_of tally found ∷ []) (work_line work ∷ [])))
+
+text_split : (form : Form) (model : MemModel) (runs : ℕ) (tally : List (Outcome × ℕ)) (found : List Judged) (work : Work)
+    → text_in form model runs (record { tally = tally; verdicts = found; work = work }) ≡ front_in form model runs tally found ++ closed (work_line work ∷ [])
+unfolding front_in
+text_split Whole model runs tally found work =
+    ap closed (lines_split model runs tally found work) ∙ closed-append (front_lines model runs tally found) (work_line work ∷ [])
+text_split Summary model runs tally found work =
+    let shown = λ (line : List ℕ). not (tells_outcome line) in
+    ap (λ (ls : List (List ℕ)). closed (filter shown ls)) (lines_split model runs tally found work)
+    ∙ ap closed (filter-append shown (front_lines model runs tally found) (work_line work ∷ []))
+    ∙ closed-append (filter shown (front_lines model runs tally found)) (work_line work ∷ [])
+
+-- reports of the same runs, by chunks of two sizes, differ in the line of the work
+pub record DifferInWork (text other : List ℕ) (is_clean also : Bool) : Type 0 where
+  pub front : List ℕ
+  pub work : Work
+  pub otherwise : Work
+  pub one : text ≡ front ++ closed (work_line work ∷ [])
+  pub second : other ≡ front ++ closed (work_line otherwise ∷ [])
+  pub clean : is_clean ≡ also
+
+pub same_but_work : (form : Form) (model : MemModel) (chunk size : ℕ) (p : Program) (runs : List (List ℕ)) (text other : List ℕ) (is_clean also : Bool)
+    → IsReportIn form model chunk p runs text is_clean → IsReportIn form model size p runs other also → DifferInWork text other is_clean also
+same_but_work form model chunk size p runs text other is_clean also h k =
+    let f = h.findings in
+    let g = k.findings in
+    let same : f.tally ≡ g.tally = one_tally (map (outcome_of p) runs) f.tally g.tally h.found.counts k.found.counts in
+    let judged : AreJudged model p (signatures g.tally) f.verdicts = subst (λ (t : List (Outcome × ℕ)). AreJudged model p (signatures t) f.verdicts) same h.found.judged in
+    let look : AllLookSame f.verdicts g.verdicts = all_judged model p (signatures g.tally) f.verdicts g.verdicts judged k.found.judged in
+    record {
+      front = front_in form model (length runs) g.tally g.verdicts;
+      work = f.work;
+      otherwise = g.work;
+      one = h.whole ∙ ap (λ (t : List (Outcome × ℕ)). text_in form model (length runs) (record { tally = t; verdicts = f.verdicts; work = f.work })) same
+          ∙ same_text model (length runs) g.tally f.work form f.verdicts g.verdicts look ∙ text_split form model (length runs) g.tally g.verdicts f.work;
+      second = k.whole ∙ text_split form model (length runs) g.tally g.verdicts g.work;
+      clean = h.clean ∙ ap (λ (t : List (Outcome × ℕ)). not (has_cycle f.verdicts) && not (has_outside t)) same
+          ∙ ap (λ (b : Bool). not b && not (has_outside g.tally)) (same_any f.verdicts g.verdicts look) ∙ sym k.clean;
+    }
 
 same_report : (form : Form) (model : MemModel) (chunk : ℕ) (p : Program) (runs : List (List ℕ)) (text other : List ℕ) (is_clean also : Bool) → IsReportIn form model chunk p runs text is_clean → IsReportIn form model chunk p runs other also
     → (text ≡ other) × (is_clean ≡ also)

@@ -2,7 +2,6 @@
 use Rattle.std.specs.Prelude.{◌≡◌, ◌⊎◌, ℕ, List, map, length, Err}
 use Rattle.std.specs.List.{AllByRecursion}
 use Rattle.tally.specs.declared.outcome.Outcome.{Outcome}
-use Rattle.tally.specs.Histories.{StandsFor}
 use Rattle.tally.specs.Tallies.{IsTally, total_of}
 use Rattle.test_lang.specs.Program.{Program}
 use Rattle.test_lang.specs.Signatures.{Means}
@@ -18,8 +17,6 @@ use Rattle.mtrace_app.specs.declared.failure.Failure.{Failure}
 use Rattle.mtrace_app.specs.declared.refusal.InputFault.{InputFault}
 use Rattle.mtrace_app.specs.declared.refusal.Refusal.{Refusal}
 use Rattle.mtrace_app.specs.declared.refusal.Refusal.TheVariants.{Input}
-use Rattle.mtrace_app.specs.declared.test_runs.Counts.{Counts}
-use Rattle.mtrace_app.specs.declared.test_runs.Counts.TheVariants.{Alone, Shared}
 use Rattle.mtrace_app.specs.Failures.{failure_of}
 use Rattle.mtrace_app.specs.Inputs.{fault_behind_test}
 use Rattle.mtrace_app.specs.Limits.{FitLimits}
@@ -39,16 +36,6 @@ pub record AreCounted (p : Program) (runs : List (List ℕ)) (count : ℕ) (tall
 pub record AreCountedWithin (p : Program) (runs : List (List ℕ)) (count : ℕ) (tally : List (Outcome × ℕ)) : Type 0 where
   pub number : count ≡ length runs
   pub counted : FitLimits count (load_count p) → AreCounted p runs count tally
-
--- these pairs are the tally of the outcomes that were counted
-abbrev pub IsTallyIn : Counts → List (Outcome × ℕ) → Type 0
-IsTallyIn (Alone tally) pairs = pairs ≡ tally
-IsTallyIn (Shared finished) pairs = StandsFor pairs finished.history
-
--- The same of counts, wherever they stand.
-pub record AreCountedIn (p : Program) (runs : List (List ℕ)) (count : ℕ) (counts : Counts) : Type 0 where
-  pub number : count ≡ length runs
-  pub counted : FitLimits count (load_count p) → (tally : List (Outcome × ℕ)) → IsTallyIn counts tally → AreCounted p runs count tally
 
 -- a text of items, whose first line has this number, is refused as that of an input is
 abbrev pub RefusesBehind : {Item : Type 0} → (Item → List ℕ → Type 0) → (ℕ → List ℕ → InputFault → Type 0) → ℕ → List ℕ → Refusal → Type 0

@@ -5,6 +5,7 @@ pub mod Inputs
 pub mod Limits
 pub mod Report
 pub mod Outputs
+pub mod OtherSettings
 pub mod Answers
 pub mod Answering
 pub mod Failures

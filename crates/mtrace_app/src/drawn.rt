@@ -5,14 +5,14 @@ ghost use Rattle.test_gen.specs.Generated.{generated};
 ghost use Rattle.test_lang.specs.Targets.{fits};
 ghost use Rattle.mtrace_app.specs.declared.refusal.InputFault.{InputFault};
 ghost use Rattle.mtrace_app.specs.declared.refusal.Refusal.{Refusal};
-ghost use Rattle.mtrace_app.specs.Counted.{AreCountedIn};
+ghost use Rattle.mtrace_app.specs.Counted.{AreCountedWithin};
 ghost use Rattle.mtrace_app.specs.Failures.{IfRefused};
 ghost use Rattle.mtrace_app.specs.Inputs.{AreRunsDrawn, IsRefusedTestAlone, IsTestAlone};
 
 use crate::failure::Failure;
 use crate::limits::fit_limits;
 use crate::refusal::Refusal;
-use crate::test_runs::{Counts, TestRuns};
+use crate::test_runs::TestRuns;
 use command_line::Settings;
 use mt_base::Gate;
 use run_text::next_line::nothing_after;
@@ -45,18 +45,18 @@ fn count_drawn<R: Threads + Sync, G: Gate + Sync>(
     test: &Test,
     plan: &Plan,
     gate: &G,
-) -> Result<Counts, AllocError>
+) -> Result<Tally, AllocError>
     requires fits { IsTrue (fits settings.now.target settings.now.fault) }
     requires ranges { IsWithinRanges settings.now }
     requires plan { plan.now ≡ test.now }
-    ensures { IfOk result (λ counts. (runs : List (List ℕ))
+    ensures { IfOk result (λ tally. (runs : List (List ℕ))
         × AreRunsDrawn settings.now test.now runs
-        × AreCountedIn test.now runs settings.now.runs counts) }
+        × AreCountedWithin test.now runs settings.now.runs tally) }
 {
     // Runs that aren't drawn are there by this law.
     one_list_of_drawn_runs();
     if !fit_limits(u64::from(settings.runs), u64::from(test.loads())) {
-        return Ok(Counts::Alone(Tally::new(alloc)));
+        return Ok(Tally::new(alloc));
     }
     let job = Job {
         test,
@@ -67,7 +67,7 @@ fn count_drawn<R: Threads + Sync, G: Gate + Sync>(
         runs: settings.runs,
     };
     let finished = run_all(rt, alloc, &job, settings.runners, gate)?;
-    Ok(Counts::Shared(finished))
+    Ok(finished.into_tally())
 }
 
 /// A test, and the runs that the settings draw of it.
@@ -85,15 +85,15 @@ fn draw_runs<R: Threads + Sync, G: Gate + Sync>(
     ensures few { IfOk result (λ read. read.runs < 2 ^ 32) }
     ensures runs { IfOk result (λ read. (runs : List (List ℕ))
         × AreRunsDrawn settings.now test runs
-        × AreCountedIn test runs read.runs read.counts) }
+        × AreCountedWithin test runs read.runs read.tally) }
 {
     let plan = Plan::of(alloc, &test)?;
-    let counts = count_drawn(rt, alloc, settings, &test, &plan, gate)?;
+    let tally = count_drawn(rt, alloc, settings, &test, &plan, gate)?;
     Ok(TestRuns {
         test,
         plan,
         runs: u64::from(settings.runs),
-        counts,
+        tally,
     })
 }
 
@@ -112,7 +112,7 @@ pub(crate) fn draw_runs_of_input<R: Threads + Sync, G: Gate + Sync>(
     ensures few { IfOk result (λ read. read.runs < 2 ^ 32) }
     ensures ok { IfOk result (λ read. IsTestAlone input.now read.test × ((runs : List (List ℕ))
         × AreRunsDrawn settings.now read.test runs
-        × AreCountedIn read.test runs read.runs read.counts)) }
+        × AreCountedWithin read.test runs read.runs read.tally)) }
     ensures err { IfErr result (IfRefused (λ refusal. (fault : InputFault)
         × (refusal ≡ Refusal.Input fault) × IsRefusedTestAlone input.now fault)) }
 {
@@ -134,7 +134,7 @@ pub(crate) fn draw_runs_of_generated<R: Threads + Sync, G: Gate + Sync>(
     ensures few { IfOk result (λ read. read.runs < 2 ^ 32) }
     ensures ok { IfOk result (λ read. (runs : List (List ℕ))
         × AreRunsDrawn settings.now read.test runs
-        × AreCountedIn read.test runs read.runs read.counts) }
+        × AreCountedWithin read.test runs read.runs read.tally) }
 {
     let test = generate(alloc, &settings.gen_settings)?;
     draw_runs(rt, alloc, settings, test, gate)

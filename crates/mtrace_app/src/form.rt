@@ -20,7 +20,8 @@ impl Form {
     {
         match command {
             Command::Demo => Form::Summary,
-            _ => Form::Whole,
+            Command::Check | Command::Replay | Command::Run | Command::Race | Command::Generate =>
+                Form::Whole,
         }
     }
 }

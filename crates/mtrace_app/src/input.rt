@@ -4,7 +4,7 @@ ghost use Rattle.command_line.specs.declared.meaning.Command.{Command};
 ghost use Rattle.command_line.specs.Settings.{AreConsistent, IsWithinRanges};
 ghost use Rattle.mtrace_app.specs.declared.refusal.InputFault.{InputFault};
 ghost use Rattle.mtrace_app.specs.Answers.{RefusesInput};
-ghost use Rattle.mtrace_app.specs.Counted.{AreCountedIn};
+ghost use Rattle.mtrace_app.specs.Counted.{AreCountedWithin};
 ghost use Rattle.mtrace_app.specs.Failures.{IfRefused};
 ghost use Rattle.mtrace_app.specs.Inputs.{IsRecorded, IsRefusedInput};
 ghost use Rattle.mtrace_app.specs.Outputs.{IsOutputOf, reports};
@@ -39,7 +39,7 @@ fn read_recorded<R: Threads + Sync, G: Gate + Sync>(
     ensures few { IfOk result (λ read. read.runs < 2 ^ 32) }
     ensures ok { IfOk result (λ read. (runs : List (List ℕ))
         × IsRecorded settings.now input.now read.test runs
-        × AreCountedIn read.test runs read.runs read.counts) }
+        × AreCountedWithin read.test runs read.runs read.tally) }
     ensures err { IfErr result (IfRefused (λ refusal. (fault : InputFault)
         × (refusal ≡ Refusal.Input fault) × IsRefusedInput settings.now input.now fault)) }
 {
@@ -48,7 +48,7 @@ fn read_recorded<R: Threads + Sync, G: Gate + Sync>(
         Command::Replay => read_plays(alloc, settings, input),
         Command::Run => draw_runs_of_input(rt, alloc, settings, input, gate),
         Command::Demo => Ok(draw_runs_of_generated(rt, alloc, settings, gate)?),
-        _ => unreachable!(),
+        Command::Race | Command::Generate => unreachable!(),
     }
 }
 
@@ -75,7 +75,7 @@ fn report_for_input<R: Threads + Sync, G: Gate + Sync>(
         test: &read.test,
         plan: &read.plan,
         runs: read.runs,
-        tally: read.counts.tally(),
+        tally: &read.tally,
     };
     Ok(report_of(rt, alloc, settings, &counted, gate)?)
 }
@@ -97,6 +97,7 @@ pub(crate) fn output_for_input<R: Threads + Sync, G: Gate + Sync>(
 {
     match settings.command {
         Command::Race => race_input(rt, alloc, settings, input, gate),
-        _ => report_for_input(rt, alloc, settings, input, gate),
+        Command::Check | Command::Replay | Command::Run | Command::Generate | Command::Demo =>
+            report_for_input(rt, alloc, settings, input, gate),
     }
 }

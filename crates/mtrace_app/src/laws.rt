@@ -1,13 +1,17 @@
 //! What an input means to a command, over the definitions alone.
-ghost use Rattle.std.specs.Prelude.{◌≡◌, ◌⊎◌, ℕ, List, ◌++◌, length, Bool, true, IsTrue, codes};
+ghost use Rattle.std.specs.Prelude.{◌≡◌, ◌⊎◌, ℕ, List, ◌++◌, length, Bool, true, [], ◌∷◌, IsTrue, codes};
 ghost use Rattle.command_line.specs.declared.meaning.Command.{Command};
 ghost use Rattle.command_line.specs.declared.meaning.Settings.{Settings};
 ghost use Rattle.command_line.specs.Settings.{HasSettings};
 ghost use Rattle.test_lang.specs.Program.{Program};
+ghost use Rattle.test_lang.specs.Text.Line.{closed};
+ghost use Rattle.verdict_report.specs.declared.report.Work.{Work};
+ghost use Rattle.verdict_report.specs.Lines.{work_line};
 ghost use Rattle.mtrace_app.specs.declared.refusal.InputFault.{InputFault};
 ghost use Rattle.mtrace_app.specs.Alarms.{IsAlarmFree};
 ghost use Rattle.mtrace_app.specs.Inputs.{IsRecorded, IsRefusedInput, fixes_runs};
-ghost use Rattle.mtrace_app.specs.Outputs.{IsOutputOf};
+ghost use Rattle.mtrace_app.specs.OtherSettings.{with_chunk, with_crew};
+ghost use Rattle.mtrace_app.specs.Outputs.{IsOutputOf, reports};
 
 use test_lang::plays::done_plays_raise_no_alarm;
 
@@ -37,6 +41,20 @@ pub fn inputs_have_one_output()
     ensures { (s : Settings) (bytes text other : List ℕ) (is_clean also : Bool) → IsTrue (fixes_runs s.command) →
         IsOutputOf s bytes text is_clean → IsOutputOf s bytes other also
         → (text ≡ other) × (is_clean ≡ also) }
+{}
+
+/// How many workers and runners there are changes nothing of what an output is.
+pub fn crews_change_nothing()
+    ensures { (s : Settings) (workers runners : ℕ) (bytes text : List ℕ) (is_clean : Bool) →
+        IsOutputOf s bytes text is_clean → IsOutputOf (with_crew s workers runners) bytes text is_clean }
+{}
+
+/// How many signatures stand in a chunk changes the last line of a report alone, that of the work.
+pub fn chunks_change_the_last_line_alone()
+    ensures { (s : Settings) (chunk : ℕ) (bytes text other : List ℕ) (is_clean also : Bool) → IsTrue (reports s.command) →
+        IsOutputOf s bytes text is_clean → IsOutputOf (with_chunk s chunk) bytes other also
+        → (front : List ℕ) × (work : Work) × (otherwise : Work) × (text ≡ front ++ closed (work_line work ∷ []))
+        × (other ≡ front ++ closed (work_line otherwise ∷ [])) × (is_clean ≡ also) }
 {}
 
 /// A race writes lines of runs, and behind them what `check` writes, by the same model and chunks, for the test with these lines and the line `done` behind it.

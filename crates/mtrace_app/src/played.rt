@@ -7,7 +7,7 @@ ghost use Rattle.sim_core.specs.Setup.{run_after};
 ghost use Rattle.mtrace_app.specs.declared.failure.Failure.{Failure};
 ghost use Rattle.mtrace_app.specs.declared.refusal.InputFault.{InputFault};
 ghost use Rattle.mtrace_app.specs.declared.refusal.Refusal.{Refusal};
-ghost use Rattle.mtrace_app.specs.Counted.{AreCountedIn, AreCountedWithin, RefusesBehind};
+ghost use Rattle.mtrace_app.specs.Counted.{AreCountedWithin, RefusesBehind};
 ghost use Rattle.mtrace_app.specs.Failures.{IfRefused};
 ghost use Rattle.mtrace_app.specs.Inputs.{ArePlayedRuns, AreRefusedPlays, IsBadForPlays, IsLineOfPlay, fault_of_play, setup_of};
 ghost use Rattle.mtrace_app.specs.Played.{PlaysOn};
@@ -15,7 +15,7 @@ ghost use Rattle.mtrace_app.specs.Played.{PlaysOn};
 use crate::failure::Failure;
 use crate::recorded::count_run;
 use crate::refusal::{InputFault, Reason, Refusal};
-use crate::test_runs::{Counts, TestRuns};
+use crate::test_runs::TestRuns;
 use command_line::Settings;
 use run_text::schedule_lines::ScheduleLines;
 use sc_machine::ScMachine;
@@ -142,7 +142,7 @@ pub(crate) fn read_plays(
     ensures few { IfOk result (λ read. read.runs < 2 ^ 32) }
     ensures ok { IfOk result (λ read. (runs : List (List ℕ))
         × ArePlayedRuns settings.now input.now read.test runs
-        × AreCountedIn read.test runs read.runs read.counts) }
+        × AreCountedWithin read.test runs read.runs read.tally) }
     ensures err { IfErr result (IfRefused (λ refusal. (fault : InputFault)
         × (refusal ≡ Refusal.Input fault) × AreRefusedPlays settings.now input.now fault)) }
 {
@@ -155,6 +155,6 @@ pub(crate) fn read_plays(
         test: read.test,
         plan,
         runs,
-        counts: Counts::Alone(tally),
+        tally,
     })
 }

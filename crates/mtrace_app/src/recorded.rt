@@ -8,7 +8,7 @@ ghost use Rattle.test_lang.specs.Values.{load_count};
 ghost use Rattle.run_text.specs.Runs.{reading, ReadsOn};
 ghost use Rattle.signature_plan.specs.Outcomes.{outcome_of};
 ghost use Rattle.mtrace_app.specs.declared.refusal.InputFault.{InputFault};
-ghost use Rattle.mtrace_app.specs.Counted.{AreCountedIn, AreCountedWithin, FailsBehind};
+ghost use Rattle.mtrace_app.specs.Counted.{AreCountedWithin, FailsBehind};
 ghost use Rattle.mtrace_app.specs.Failures.{IfRefused};
 ghost use Rattle.mtrace_app.specs.Inputs.{AreRecordedRuns, AreRefusedRuns, text_behind};
 ghost use Rattle.mtrace_app.specs.Limits.{FitLimits};
@@ -16,7 +16,7 @@ ghost use Rattle.mtrace_app.specs.Limits.{FitLimits};
 use crate::failure::Failure;
 use crate::limits::fit_limits;
 use crate::refusal::Refusal;
-use crate::test_runs::{Counts, TestRuns};
+use crate::test_runs::TestRuns;
 use run_text::fault::RunFault;
 use run_text::run_lines::RunLines;
 use signature_plan::Plan;
@@ -89,7 +89,7 @@ pub(crate) fn read_runs(alloc: Global, input: &[u8]) -> Result<TestRuns, Failure
     ensures few { IfOk result (λ read. read.runs < 2 ^ 32) }
     ensures ok { IfOk result (λ read. (runs : List (List ℕ))
         × AreRecordedRuns input.now read.test runs
-        × AreCountedIn read.test runs read.runs read.counts) }
+        × AreCountedWithin read.test runs read.runs read.tally) }
     ensures err { IfErr result (IfRefused (λ refusal. (fault : InputFault)
         × (refusal ≡ Refusal.Input fault) × AreRefusedRuns input.now fault)) }
 {
@@ -100,6 +100,6 @@ pub(crate) fn read_runs(alloc: Global, input: &[u8]) -> Result<TestRuns, Failure
         test: read.test,
         plan,
         runs,
-        counts: Counts::Alone(tally),
+        tally,
     })
 }

@@ -9,6 +9,7 @@ use std::thread::Threads;
 
 mod chunks;
 mod drawn;
+mod each_place;
 mod generated;
 mod plays;
 mod raced;
@@ -49,13 +50,13 @@ const STORE_THEN_LOAD_OF_ONE_WORD: &str =
 
 /// How a source or a sink behaves: how many bytes a sink has room for, how many a call moves at most, and which calls fail.
 #[derive(Clone, Copy)]
-struct Manner {
+struct Manner<'a> {
     room: usize,
     most: usize,
-    fails: &'static [u32],
+    fails: &'a [u32],
 }
 
-const FREE: Manner = Manner {
+const FREE: Manner<'static> = Manner {
     room: 100_000,
     most: 65_536,
     fails: &[],
@@ -66,9 +67,9 @@ const FREE: Manner = Manner {
 struct Call<'a> {
     words: &'static str,
     input: &'a str,
-    takes: Manner,
-    puts: Manner,
-    tells: Manner,
+    takes: Manner<'a>,
+    puts: Manner<'a>,
+    tells: Manner<'a>,
 }
 
 const CHECK: Call<'static> = Call {
@@ -97,7 +98,7 @@ fn words_of(alloc: Global, text: &str) -> Result<Vec<String>, AllocError> {
     Ok(words)
 }
 
-fn sink_of(alloc: Global, manner: &Manner) -> Result<MemSink, AllocError> {
+fn sink_of(alloc: Global, manner: &Manner<'_>) -> Result<MemSink, AllocError> {
     MemSink::with_room(
         alloc,
         manner.room,
@@ -796,7 +797,7 @@ fn takes_fail(
     alloc: Global,
     runs: u32,
     most: usize,
-    fails: &'static [u32],
+    fails: &[u32],
 ) -> Result<bool, AllocError> {
     let input = joined(alloc, STORE_BUFFERING, "run 0 0\n", runs, "done\n")?;
     let takes = Manner {
@@ -860,7 +861,7 @@ const FAILING_PUTS: [(usize, usize, &[u32], usize); 5] = [
 fn puts_fail(
     rt: &(impl Threads + Sync),
     alloc: Global,
-    puts: Manner,
+    puts: Manner<'_>,
     written: usize,
 ) -> Result<bool, AllocError> {
     let output = both_zero(alloc, 1)?;
@@ -892,20 +893,25 @@ fn all_puts_fail(rt: &(impl Threads + Sync), alloc: Global) -> Result<bool, Allo
     Ok(true)
 }
 
-/// A put that would come behind the last fails nothing.
+/// A put that would come behind the last fails nothing, and where a put may write all, it is the only one.
 fn puts_behind_the_last(rt: &(impl Threads + Sync), alloc: Global) -> Result<bool, AllocError> {
     let output = both_zero(alloc, 1)?;
-    let puts = Manner {
-        room: 172,
-        most: 8,
-        fails: &[22],
-    };
-    let call = Call {
-        input: ZEROS,
-        puts,
-        ..CHECK
-    };
-    leaves(rt, alloc, &call, Status::Found, output.as_str(), "")
+    for (most, fails) in [(8, [22u32].as_slice()), (172, [1u32].as_slice())] {
+        let puts = Manner {
+            room: 172,
+            most,
+            fails,
+        };
+        let call = Call {
+            input: ZEROS,
+            puts,
+            ..CHECK
+        };
+        if !leaves(rt, alloc, &call, Status::Found, output.as_str(), "")? {
+            return Ok(false);
+        }
+    }
+    Ok(true)
 }
 
 #[test]

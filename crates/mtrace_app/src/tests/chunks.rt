@@ -31,7 +31,7 @@ struct Chunked {
     work: &'static str,
 }
 
-const CHUNKED: [Chunked; 7] = [
+const CHUNKED: [Chunked; 8] = [
     // The first has no order and leaves no base; the window of the third has four nodes, that of the fourth two.
     Chunked {
         options: &["--chunk 4", "", "--chunk 1000000 --workers 64"],
@@ -91,6 +91,19 @@ const CHUNKED: [Chunked; 7] = [
             sig 0000000000000002 count 1 ok\n\
             sum signatures 2 ok 2 cycle 0 outside 0\n",
         work: "work chunks 1 full 1 kept 1 resorted 0 nodes 0\n",
+    },
+    // Windows of three nodes and of two; in the last, each load reads the other thread's store over its own.
+    Chunked {
+        options: &["--chunk 4", "--chunk 4 --workers 2"],
+        test: STORE_LOAD_EACH,
+        runs: "run 1 2\nrun 1 1\nrun 2 2\nrun 2 1\ndone\n",
+        count: 4,
+        lines: "sig 0000000000000000.0000000000000000 count 1 ok\n\
+            sig 0000000000000000.0000000000000001 count 1 ok\n\
+            sig 0000000000000001.0000000000000000 count 1 ok\n\
+            sig 0000000000000001.0000000000000001 count 1 cycle 0 2\n\
+            sum signatures 4 ok 3 cycle 1 outside 0\n",
+        work: "work chunks 1 full 1 kept 0 resorted 3 nodes 7\n",
     },
     Chunked {
         options: &["", "--workers 64"],

@@ -507,3 +507,32 @@ fn runs_are_those_that_are_drawn(rt: HostRuntime) -> Result<(), Fail> {
     assert_eq!(rt; other_runs(&rt, rt.alloc())?, None);
     Ok(())
 }
+
+/// A report of any length has room.
+const WIDE: Manner<'static> = Manner {
+    room: 20_000_000,
+    ..FREE
+};
+
+/// Whether 65,536 runs of a generated test, drawn by four runners and checked by four workers, are all reported, without a cycle.
+fn ordinary_use_is_sound(rt: &(impl Threads + Sync), alloc: Global) -> Result<bool, AllocError> {
+    let options = "--seed 9 --threads 4 --ops 50 --words 32";
+    let made = output_for(rt, alloc, "generate ", options, "")?;
+    let Ok(text) = str::from_utf8(&made.output) else {
+        return Ok(false);
+    };
+    let call = Call {
+        words: "run --seed 9 --runs 65536 --target tso --model tso --chunk 256 --workers 4 --runners 4",
+        input: text,
+        puts: WIDE,
+        ..CHECK
+    };
+    let made = make(rt, alloc, &call)?;
+    Ok(made.status == Status::Clean && is_sound(&made.output, 65_536))
+}
+
+#[test]
+fn ordinary_use(rt: HostRuntime) -> Result<(), Fail> {
+    assert!(rt; ordinary_use_is_sound(&rt, rt.alloc())?);
+    Ok(())
+}

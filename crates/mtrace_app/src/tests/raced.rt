@@ -4,7 +4,7 @@ ghost use Rattle.std.specs.Prelude.{None};
 use super::*;
 use mt_base::{Gate, MeetGate};
 use std::str;
-use std::sync::atomic::{AtomicBool, Ordering};
+use std::sync::atomic::{AtomicBool, AtomicU32, Ordering};
 
 /// Options that `check` has too, a test, and how often it is raced.
 #[derive(Clone, Copy)]
@@ -149,16 +149,20 @@ fn two_threads_meet(rt: HostRuntime) -> Result<(), Fail> {
     Ok(())
 }
 
-/// It keeps a worker for a while: this looks 100,000,000 times at a flag that nobody raises.
+/// It keeps one of two threads for a while, the second in the first race, the first in the second, and so on: that looks 100,000,000 times at a flag that nobody raises.
 #[derive(Drop)]
-struct KeepGate {
-    worker: u32,
+struct KeepInTurn {
+    races: [AtomicU32; 2],
     flag: AtomicBool,
 }
 
-impl Gate for KeepGate {
+impl Gate for KeepInTurn {
     fn at(&self, worker: u32, _piece: u32) {
-        if worker != self.worker {
+        let Some(races) = self.races.get(worker as usize) else {
+            return;
+        };
+        let race = races.fetch_add(1, Ordering::SeqCst);
+        if race.wrapping_add(worker) % 2 == 0 {
             return;
         }
         for _ in 0..100_000_000 {
@@ -171,30 +175,25 @@ impl Gate for KeepGate {
     fn held(&self, _worker: u32) {}
 }
 
-/// Whether a race of store buffering in which this thread is kept writes this line first.
-fn kept_gives(
-    rt: &(impl Threads + Sync),
-    alloc: Global,
-    worker: u32,
-    line: &str,
-) -> Result<bool, AllocError> {
-    let gate = KeepGate {
-        worker,
+/// What two races of store buffering write, in each of which a thread is kept.
+fn kept_in_turn(rt: &(impl Threads + Sync), alloc: Global) -> Result<Made, AllocError> {
+    let gate = KeepInTurn {
+        races: [AtomicU32::new(0), AtomicU32::new(0)],
         flag: AtomicBool::new(false),
     };
     let race = Race {
-        options: "",
+        options: "--workers 1",
         test: STORE_BUFFERING,
-        runs: 1,
+        runs: 2,
     };
-    let made = make_race(rt, alloc, &race, &gate)?;
-    Ok(made.output.starts_with(line.as_bytes()))
+    make_race(rt, alloc, &race, &gate)
 }
 
+/// A thread that is kept comes last, and the lines stand in the order of the races.
 #[test]
-fn a_thread_that_is_kept_comes_last(rt: HostRuntime) -> Result<(), Fail> {
-    assert!(rt; kept_gives(&rt, rt.alloc(), 1, "run 0 1\n")?);
-    assert!(rt; kept_gives(&rt, rt.alloc(), 0, "run 2 0\n")?);
+fn races_stand_in_their_order(rt: HostRuntime) -> Result<(), Fail> {
+    let made = kept_in_turn(&rt, rt.alloc())?;
+    assert!(rt; made.output.starts_with(b"run 0 1\nrun 2 0\n"));
     Ok(())
 }
 

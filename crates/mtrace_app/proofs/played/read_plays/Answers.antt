@@ -4,7 +4,6 @@ use Rattle.std.proofs.lemmas.Result.{err_from_is_err_and}
 use Rattle.test_lang.specs.Text.Grammar.{StartsWithTest}
 use Rattle.sim_core.specs.Setup.{run_after}
 use Rattle.mtrace_app.specs.Inputs.{setup_of}
-use Rattle.mtrace_app.proofs.Counts.{counted_alone}
 use Rattle.mtrace_app.proofs.InputsPlayed.{failed_behind, failed_in_test}
 use Rattle.mtrace_app.proofs.played.read_plays.Goals as goal
 
@@ -17,7 +16,7 @@ returns-clause-ok c =
     let ok = c.in_ok-runs.ensures.ok in (
       map (run_after (setup_of c.args.settings.now read.test)) ok.0,
       record { schedules = ok.0; text = record { rest = text; test = starts; text = ok.1 }; played = refl },
-      counted_alone read.test (map (run_after (setup_of c.args.settings.now read.test)) ok.0) c.in_ok-runs.runs c.in_ok-runs.tally ok.2,
+      ok.2,
     )
 
 pub returns-in_err-read-clause-err : goal.returns-in_err-read-clause-err

@@ -4,7 +4,6 @@ use Rattle.std.proofs.lemmas.Result.{err_from_is_err_and}
 use Rattle.test_lang.specs.Program.{Program}
 use Rattle.test_lang.specs.Text.Grammar.{StartsWithTest}
 use Rattle.mtrace_app.specs.Counted.{AreCountedWithin}
-use Rattle.mtrace_app.proofs.Counts.{counted_alone}
 use Rattle.mtrace_app.proofs.InputsRead.{failed_by, failed_in_reading, recorded_by}
 use Rattle.mtrace_app.proofs.recorded.read_runs.Goals as goal
 
@@ -18,7 +17,7 @@ returns-clause-ok c =
     let same = c.in_ok-plan.ensures in (
       ok.0,
       recorded_by input read.test c.in_ok-plan.plan text (read.lines + 1) ok.0 same starts ok.1,
-      counted_alone read.test ok.0 c.in_ok-runs.runs c.in_ok-runs.tally (subst (λ (q : Program). AreCountedWithin q ok.0 c.in_ok-runs.runs c.in_ok-runs.tally) same ok.2),
+      subst (λ (q : Program). AreCountedWithin q ok.0 c.in_ok-runs.runs c.in_ok-runs.tally) same ok.2,
     )
 
 pub returns-in_err-read-clause-err : goal.returns-in_err-read-clause-err
