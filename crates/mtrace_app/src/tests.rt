@@ -797,7 +797,7 @@ fn takes_fail(
     alloc: Global,
     runs: u32,
     most: usize,
-    fails: &[u32],
+    fails: &'static [u32],
 ) -> Result<bool, AllocError> {
     let input = joined(alloc, STORE_BUFFERING, "run 0 0\n", runs, "done\n")?;
     let takes = Manner {
