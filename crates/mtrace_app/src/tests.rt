@@ -791,22 +791,21 @@ const FAILING_TAKES: [(u32, usize, &[u32]); 6] = [
     (8743, 4096, &[18]),
 ];
 
-/// Whether failing takes of an input of so many runs are a fault of reading.
-fn takes_fail(
+/// Whether failing takes of an input are a fault of reading. The input and the numbers are lent for one time, since a call holds both.
+fn takes_fail<'a>(
     rt: &(impl Threads + Sync),
     alloc: Global,
-    runs: u32,
+    input: &'a str,
     most: usize,
-    fails: &'static [u32],
+    fails: &'a [u32],
 ) -> Result<bool, AllocError> {
-    let input = joined(alloc, STORE_BUFFERING, "run 0 0\n", runs, "done\n")?;
     let takes = Manner {
         room: 0,
         most,
         fails,
     };
     let call = Call {
-        input: input.as_str(),
+        input,
         takes,
         ..CHECK
     };
@@ -816,7 +815,8 @@ fn takes_fail(
 
 fn all_takes_fail(rt: &(impl Threads + Sync), alloc: Global) -> Result<bool, AllocError> {
     for (runs, most, fails) in &FAILING_TAKES {
-        if !takes_fail(rt, alloc, *runs, *most, *fails)? {
+        let input = joined(alloc, STORE_BUFFERING, "run 0 0\n", *runs, "done\n")?;
+        if !takes_fail(rt, alloc, input.as_str(), *most, *fails)? {
             return Ok(false);
         }
     }
