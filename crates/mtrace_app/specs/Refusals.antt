@@ -1,5 +1,5 @@
 -- Why a call has no output, and the line that tells it.
-use Rattle.std.specs.Prelude.{ℕ, List, [], ◌∷◌, ◌++◌, codes}
+use Rattle.std.specs.Prelude.{ℕ, List, [], ◌∷◌, ◌++◌, Bool, true, false, codes}
 use Rattle.std.specs.Fmt.{decimal}
 use Rattle.mtrace_app.specs.declared.refusal.Reason.{Reason}
 use Rattle.mtrace_app.specs.declared.refusal.Reason.TheVariants.{BadHead, BadWords, BadLine, WordRange, TooManyThreads, TooManyOps, NoThread, NoEnd, BadRunLine, WrongCount, ValueRange, NoDone, AfterDone, NotEnabled, Unfinished}
@@ -51,3 +51,12 @@ status_of Words = StatusWords
 status_of ReadFault = StatusReadFault
 status_of (Input fault) = StatusInput
 status_of (TooLarge size) = StatusTooLarge
+
+-- whether the line of a refusal has no number, so that it takes no memory
+abbrev pub has_fixed_line : Refusal → Bool
+has_fixed_line Words = true
+has_fixed_line ReadFault = true
+has_fixed_line (Input fault) = false
+has_fixed_line (TooLarge Bytes) = true
+has_fixed_line (TooLarge (Runs count)) = false
+has_fixed_line (TooLarge (Values count)) = false

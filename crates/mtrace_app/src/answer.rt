@@ -1,8 +1,10 @@
 //! What a call answers, before anything of it is written.
-ghost use Rattle.std.specs.Prelude.{◌≡◌, ◌⊎◌, ◌≤◌};
-ghost use Rattle.command_line.specs.Settings.{HasNoSettings};
+ghost use Rattle.std.specs.Prelude.{◌≡◌, ◌⊎◌, ◌≤◌, false};
+ghost use Rattle.command_line.specs.declared.meaning.Settings.{Settings};
+ghost use Rattle.command_line.specs.Settings.{HasNoSettings, HasSettings};
 ghost use Rattle.mtrace_app.specs.Answering.{IsAnswerTo, TellsRefusal, answer_line, answer_status};
 ghost use Rattle.mtrace_app.specs.Answers.{texts};
+ghost use Rattle.mtrace_app.specs.Inputs.{reads};
 ghost use Rattle.mtrace_app.specs.Outside.{change, IsPastLimit, IsRestOf, WhereTold};
 
 use crate::counted::Output;
@@ -48,6 +50,7 @@ pub(crate) fn answer_words<R: Threads + Sync, S: Source, G: Gate + Sync>(
         (change (S.left source.old) (S.left source.new) (S.faults source.old) (S.faults source.new)) result }
     ensures by_words { HasNoSettings (texts words.now) →
         ((answer_status result ≡ Status.Words) ⊎ (result ≡ Answer.NoMemory)) × (source.new ≡ source.old) }
+    ensures untouched { (s : Settings) → HasSettings (texts words.now) s → reads s.command ≡ false → source.new ≡ source.old }
     ensures too_large { WhereTold (S.left source.old) (S.left source.new)
         (λ before now. IsPastLimit before now → answer_status result ≡ Status.TooLarge) }
     ensures rest { IsRestOf (S.left source.old) (S.left source.new) }

@@ -1,10 +1,12 @@
 //! What a command writes, by the words and by what the source gives.
-ghost use Rattle.std.specs.Prelude.{◌≡◌, ◌⊎◌, ◌≤◌, Err, IfOk, IfErr};
-ghost use Rattle.command_line.specs.Settings.{AreConsistent, HasNoSettings, IsWithinRanges};
+ghost use Rattle.std.specs.Prelude.{◌≡◌, ◌⊎◌, ◌≤◌, Err, false, IfOk, IfErr};
+ghost use Rattle.command_line.specs.declared.meaning.Settings.{Settings};
+ghost use Rattle.command_line.specs.Settings.{AreConsistent, HasNoSettings, HasSettings, IsWithinRanges};
 ghost use Rattle.mtrace_app.specs.declared.refusal.Refusal.{Refusal};
 ghost use Rattle.mtrace_app.specs.declared.failure.Failure.TheVariants.{Memory, Refused};
 ghost use Rattle.mtrace_app.specs.Answers.{HasCause, HasOutput, IsCause, texts};
 ghost use Rattle.mtrace_app.specs.Failures.{IfRefused};
+ghost use Rattle.mtrace_app.specs.Inputs.{reads};
 ghost use Rattle.mtrace_app.specs.Outputs.{IsOfInput, IsOutputOf};
 ghost use Rattle.mtrace_app.specs.Outside.{change, IsPastLimit, IsRestOf, WhereTold};
 
@@ -35,6 +37,7 @@ fn output_of<R: Threads + Sync, S: Source, G: Gate + Sync>(
         (change (S.left source.old) (S.left source.new) (S.faults source.old) (S.faults source.new)))) }
     ensures too_large { WhereTold (S.left source.old) (S.left source.new)
         (λ before now. IsPastLimit before now → result ≡ Err (Refused (Refusal.TooLarge Size.Bytes))) }
+    ensures untouched { reads settings.now.command ≡ false → source.new ≡ source.old }
     ensures rest { IsRestOf (S.left source.old) (S.left source.new) }
     ensures later { S.faults source.old ≤ S.faults source.new }
 {
@@ -64,6 +67,7 @@ pub(crate) fn output_for<R: Threads + Sync, S: Source, G: Gate + Sync>(
         ((result ≡ Err (Refused Refusal.Words)) ⊎ (result ≡ Err Memory)) × (source.new ≡ source.old) }
     ensures too_large { WhereTold (S.left source.old) (S.left source.new)
         (λ before now. IsPastLimit before now → result ≡ Err (Refused (Refusal.TooLarge Size.Bytes))) }
+    ensures untouched { (s : Settings) → HasSettings (texts words.now) s → reads s.command ≡ false → source.new ≡ source.old }
     ensures rest { IsRestOf (S.left source.old) (S.left source.new) }
     ensures later { S.faults source.old ≤ S.faults source.new }
 {

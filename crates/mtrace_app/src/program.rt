@@ -1,5 +1,5 @@
 //! The call that does all that the program does.
-ghost use Rattle.std.specs.Prelude.{◌≡◌, ◌≢◌, ◌≤◌, ◌^◌, ℕ, List, length, IfSome, codes};
+ghost use Rattle.std.specs.Prelude.{◌≡◌, ◌≢◌, ◌≤◌, ◌^◌, ℕ, List, length, false, IfSome, codes};
 ghost use Rattle.std.specs.Io.KnownBytes.{Keeps};
 ghost use Rattle.mt_base.specs.Faults.{Rose};
 ghost use Rattle.command_line.specs.declared.meaning.Settings.{Settings};
@@ -7,6 +7,7 @@ ghost use Rattle.command_line.specs.Settings.{HasNoSettings, HasSettings};
 ghost use Rattle.mtrace_app.specs.Alarms.{IsAlarmFree};
 ghost use Rattle.mtrace_app.specs.Answering.{IsPut, answer_line};
 ghost use Rattle.mtrace_app.specs.Answers.{IsAnswered, IsDue, texts};
+ghost use Rattle.mtrace_app.specs.Inputs.{reads};
 ghost use Rattle.mtrace_app.specs.Outputs.{input_of};
 ghost use Rattle.mtrace_app.specs.Outside.{change, IsPastLimit, IsRestOf, IsTold, WhereTold};
 ghost use Rattle.mtrace_app.specs.Refusals.{message};
@@ -37,7 +38,7 @@ pub fn mtrace<S: Source, K: Sink, E: Sink, G: Gate + Sync>(
     gate: &G,
 ) -> Status
     // Each answer has its cause, and by it what the sink gets and the line for the errors. Want of memory needs no cause.
-    // A fault of the errors changes no status.
+    // Where the errors have a fault, they get a front of that line.
     ensures answered { (line : List ℕ)
         × IsAnswered (texts words.now)
         (change (S.left source.old) (S.left source.new) (S.faults source.old) (S.faults source.new))
@@ -56,6 +57,8 @@ pub fn mtrace<S: Source, K: Sink, E: Sink, G: Gate + Sync>(
     // A machine without a fault gives nothing that its own memory model, or a weaker one, forbids.
     ensures no_alarm { (s : Settings) → HasSettings (texts words.now) s → IsAlarmFree s → result ≢ Status.Found }
     ensures too_large { WhereTold (S.left source.old) (S.left source.new) (λ before now. IsPastLimit before now → result ≡ Status.TooLarge) }
+    // A command that reads nothing takes nothing.
+    ensures untouched { (s : Settings) → HasSettings (texts words.now) s → reads s.command ≡ false → source.new ≡ source.old }
 
     // No more is taken than the limit and a block of 2^16 bytes, and no count of faults falls.
     ensures rest { IsRestOf (S.left source.old) (S.left source.new) }

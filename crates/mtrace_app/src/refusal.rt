@@ -1,7 +1,7 @@
 //! Why a call has no output, and the line that tells it.
-ghost use Rattle.std.specs.Prelude.{◌≡◌, IfOk, IsOk};
+ghost use Rattle.std.specs.Prelude.{◌≡◌, IfOk, IsOk, IsTrue};
 ghost use Rattle.std.specs.Cow.{cow_str_bytes};
-ghost use Rattle.mtrace_app.specs.Refusals.{message, refusal_text, status_of};
+ghost use Rattle.mtrace_app.specs.Refusals.{has_fixed_line, message, refusal_text, status_of};
 
 use crate::status::Status;
 use std::alloc::{AllocError, Global};
@@ -158,10 +158,10 @@ impl Refusal {
         }
     }
 
-    /// The line for the errors. The error is want of memory; that of an input of too many bytes takes none.
+    /// The line for the errors. The error is want of memory; a line without numbers takes none.
     pub fn line(&self, alloc: Global) -> Result<CowStr<'static>, AllocError>
         ensures text { IfOk result (λ line. cow_str_bytes line ≡ message (refusal_text self.now)) }
-        ensures fixed { self.now ≡ Refusal.TooLarge Size.Bytes → IsOk result }
+        ensures fixed { IsTrue (has_fixed_line self.now) → IsOk result }
     {
         match self {
             Refusal::Words => Ok(CowStr::Borrowed("mtrace: words\n")),

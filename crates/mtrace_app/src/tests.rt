@@ -522,6 +522,7 @@ fn wrong_row(
     Ok(None)
 }
 
+/// The rows begin with store buffering. A body that gives up (`always_memory`) reports none of them.
 #[test]
 fn reports_of_runs(rt: HostRuntime) -> Result<(), Fail> {
     assert_eq!(rt; wrong_row(&rt, rt.alloc())?, None);
@@ -775,7 +776,7 @@ fn passed_words(
 }
 
 #[test]
-fn words_and_what_is_not_built(rt: HostRuntime) -> Result<(), Fail> {
+fn refused_words(rt: HostRuntime) -> Result<(), Fail> {
     assert_eq!(rt; passed_words(&rt, rt.alloc())?, None);
     Ok(())
 }
