@@ -250,8 +250,9 @@ fn each_worker_calls_the_gate_once(rt: HostRuntime) -> Result<(), Fail> {
     Ok(())
 }
 
+/// Workers on one thread would not meet.
 #[test]
-fn two_workers_meet(rt: HostRuntime) -> Result<(), Fail> {
+fn two_workers_meet_unlike_workers_on_one_thread(rt: HostRuntime) -> Result<(), Fail> {
     let gate = MeetGate::new();
     assert!(rt; answers(&rt, rt.alloc(), &CASES[0], (1, [4, 4, 0, 0, 0]), 2, &gate)?);
     assert!(rt; gate.met());

@@ -22,7 +22,7 @@ pub trait Source {
     /// How often the source has failed. It never falls, and stops at 2^64 - 1.
     ghost faults: { Self → ℕ };
 
-    /// Takes the next bytes, at least one, into the front of the buffer. What it leaves in the rest of the buffer is open.
+    /// Takes the next bytes, at least one, into the front of the buffer. What it leaves behind them is open, and after `End` and `Failed` the whole buffer.
     fn take(&mut self, buf: &mut [u8]) -> Take
         requires { 0 < length buf.old }
         ensures within { IsWithinRoom result (length buf.old) }

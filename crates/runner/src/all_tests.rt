@@ -186,8 +186,9 @@ fn each_runner_calls_the_gate_once(rt: HostRuntime) -> Result<(), Fail> {
     Ok(())
 }
 
+/// Runners on one thread would not meet.
 #[test]
-fn two_runners_meet(rt: HostRuntime) -> Result<(), Fail> {
+fn two_runners_meet_unlike_runners_on_one_thread(rt: HostRuntime) -> Result<(), Fail> {
     let gate = MeetGate::new();
     assert!(rt; is_done(&rt, rt.alloc(), Target::Sc, TWO_RUNNERS, &gate)?);
     assert!(rt; gate.met());
