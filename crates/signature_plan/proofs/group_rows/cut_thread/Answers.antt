@@ -6,7 +6,7 @@ use Rattle.test_lang.specs.Signatures.{candidate_count}
 use Rattle.test_lang.specs.Values.{rank_of, thread_loads}
 use Rattle.test_lang.proofs.Nodes.{is_load_at-op}
 use Rattle.test_lang.proofs.Threads.{StandsIn}
-use Rattle.candidates.proofs.OwnBlocks.{stands_in, thread_node}
+use Rattle.candidates.proofs.ThreadNodes.{stands_in, thread_node}
 use Rattle.signature_plan.proofs.AllLoads.{loads_left, loads_left-first, loads_left-end, loads_left-other, loads_left-load, not_load, count_of_rank, thread_counts}
 use Rattle.signature_plan.proofs.GroupRows.{empty_group, rows_after, step_fits, step_full, last_open, none_open}
 use Rattle.signature_plan.proofs.group_rows.cut_thread.Goals as goal
