@@ -43,6 +43,8 @@ impl Candidates {
         ensures { IfOk result (λ candidates. candidates ≡ test.now) }
     {
         let lists = CandidateLists::of(alloc, test)?;
+        // The limits of a test are told with its words.
+        let _words = test.words();
         Ok(Candidates {
             test: test.clone()?,
             values: test.stores() as usize + 1,
