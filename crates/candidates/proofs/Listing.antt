@@ -29,7 +29,7 @@ other_value : (p : Program) (load k value : ℕ) → slice_get (others p load) k
 other_value p load k value e =
     let found : Contains (others p load) value = (k, slice_get_within (others p load) k value e, get_or_from_slice_get (others p load) k value value e) in
     let other = Contains-map_back (value_of p) (filter (is_other_store p load) (all_nodes p)) value found in
-    record { node = other.0; is_other = (Contains-filter_back (is_other_store p load) (all_nodes p) other.0 other.1).1; value_is = sym other.2 }
+    record { node = other.0; is_other = (Contains-filter_back (is_other_store p load) (all_nodes p) other.0 other.1).1; value_is = other.2 }
 
 -- the place of a value that is no other candidate's
 
@@ -102,6 +102,22 @@ module _ (p : Program) (value node : ℕ) (some : 1 ≤ value) (few : value ≤ 
   value_found rank next b lt other at =
       subst (λ (k : ℕ). FindsPlace (candidates_at p rank) value (if b then Some k else (if value == base p (load_at p rank) then Some 0 else None))) (sym at)
       (row_found rank b lt (sym other))
+
+  -- the list of candidates goes on behind what it had
+  pub values_more : (load first : ℕ) (b : Bool) (old values new : List ℕ) → b ≡ is_other_store p load node → values ≡ old ++ first ∷ others_below p load (value - 1) → new ≡ values ++ cond b (value ∷ []) []
+      → new ≡ old ++ first ∷ others_below p load (value + 1 - 1)
+  values_more load first b old values new other before added =
+      let same : value + 1 - 1 ≡ value = omega arith in
+      added
+      ∙ ap (λ (list : List ℕ). list ++ cond b (value ∷ []) []) before
+      ∙ append_assoc old (first ∷ others_below p load (value - 1)) (cond b (value ∷ []) [])
+      ∙ ap (λ (d : Bool). old ++ first ∷ (others_below p load (value - 1) ++ cond d (value ∷ []) [])) other
+      ∙ ap (λ (list : List ℕ). old ++ first ∷ list) (sym (others_more load))
+      ∙ ap (λ (n : ℕ). old ++ first ∷ others_below p load n) (sym same)
+
+-- how many candidates are listed
+pub listed : (p : Program) (load first n : ℕ) (old values : List ℕ) → values ≡ old ++ first ∷ others_below p load n → length values ≡ length old + suc (length (others_below p load n))
+listed p load first n old values is = let both = length-append old (first ∷ others_below p load n) in ap length is ∙ both
 
 -- there are few of them
 pub others_below-le : (p : Program) (load n : ℕ) → length (others_below p load n) < length (candidates p load)

@@ -129,7 +129,7 @@ filter_twice : (f g : ℕ → Bool) → ((k : ℕ) → f k ≡ true → g k ≡ 
 filter_twice f g h [] = refl
 filter_twice f g h (x ∷ xs) = twice_by f g x xs (filter g xs) (g x) (f x) (h x) refl refl (filter_twice f g h xs)
 
-other_is_store : (p : Program) (load n : ℕ) → is_other_store p load n ≡ true → is_store_at p n ≡ true
+pub other_is_store : (p : Program) (load n : ℕ) → is_other_store p load n ≡ true → is_store_at p n ≡ true
 other_is_store p load n h = (and_parts (is_store_at p n) (one_word p load n) (and_parts (writes_for p load n) (not (same_thread p load n)) h).0).0
 
 pub others_below-all : (p : Program) (load : ℕ) → others_below p load (store_count p) ≡ others p load

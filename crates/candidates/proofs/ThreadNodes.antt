@@ -31,3 +31,9 @@ not_earlier p load t n e before = false_from_ne_true (own_earlier p load n) (λ 
     let stands = thread_at-stands p n t (thread_from p load n t (slice_get (nodes p) load) (slice_get (nodes p) n) refl refl near e) in
     let from = stands.from in
     absurd (omega (arith, before, from)))
+
+pub earlier_node : (p : Program) (load t n : ℕ) (op : Op) → thread_at p load ≡ Some t → op_at p n ≡ Some op → first_node p t ≤ n → n < load → slice_get (nodes p) n ≡ Some (t, op)
+earlier_node p load t n op e found from before =
+    let stands = thread_at-stands p load t e in
+    let to = stands.to in
+    thread_node p t n op (record { in_range = stands.in_range; from = from; to = omega (arith, to, before) }) found

@@ -5,9 +5,10 @@ use Rattle.candidates.specs.ByRank.{candidates_at}
 use Rattle.candidates.specs.Tables.{TellsCandidates}
 use Rattle.candidates.proofs.TableReads.{lists_of, row_told}
 use Rattle.candidates.proofs.candidate_table.Candidates.at.Goals as goal
+use Rattle.candidates.proofs.candidate_table.Candidates.at.Goals.{After-index}
 
 -- where the candidate stands in the list
-stands : (c : goal.After-index) → slice_get c.self.inside.lists.values.items (c.index.result.now.first + c.args.place) ≡ Some (get_or (candidates_at c.args.self.now c.args.rank) c.args.place 0)
+stands : (c : After-index) → slice_get c.self.inside.lists.values.items (c.index.result.now.first + c.args.place) ≡ Some (get_or (candidates_at c.args.self.now c.args.rank) c.args.place 0)
 stands c =
     let p = c.args.self.now in
     let i = c.self.inside in
