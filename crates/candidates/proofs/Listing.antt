@@ -1,5 +1,5 @@
 -- The candidates of one load more in the list, and the rows of its values.
-use Rattle.std.proofs.Common.{◌≡◌, ◌∙◌, ℕ, zero, suc, ◌+◌, ◌-◌, ◌*◌, ◌<◌, ◌≤◌, List, [], ◌∷◌, ◌++◌, Bool, true, false, not, ◌&&◌, cond, map, take, length, get_or, Option, None, Some, Contains, refl, ap, arith, sym, subst, ⊎_elim, append_assoc, length-append}
+use Rattle.std.proofs.Common.{◌≡◌, ◌∙◌, ℕ, zero, suc, ◌+◌, ◌-◌, ◌*◌, ◌^◌, ◌<◌, ◌≤◌, List, [], ◌∷◌, ◌++◌, Bool, true, false, not, ◌&&◌, cond, map, take, length, get_or, Option, None, Some, Contains, refl, ap, arith, sym, subst, ⊎_elim, append_assoc, length-append}
 use Rattle.std.specs.Prelude.{◌==◌, filter, if◌then◌else◌, slice_get}
 use Rattle.std.proofs.lemmas.Bool.{and_parts, eq-eqb, ne_eqb, cases_eq}
 use Rattle.std.proofs.lemmas.Option.{get_or_from_slice_get, same_Some, slice_get-get_or, slice_get_within}
@@ -128,22 +128,24 @@ others_below-le p load n =
     omega (arith, all, both)
 
 -- one load more
-candidates_told : (candidates values : List ℕ) (row : LoadRow) → row.first ≡ length values → row.count ≡ length candidates → TellsCandidates candidates (values ++ candidates) row
-candidates_told candidates values row first count = record {
+candidates_told : (candidates values : List ℕ) (row : LoadRow) → row.first ≡ length values → row.count ≡ length candidates → row.first + length candidates < 2 ^ 64 → TellsCandidates candidates (values ++ candidates) row
+candidates_told candidates values row first count fits = record {
   count_is = count;
+  end_fits = fits;
   stand = λ place value e. ap (λ (n : ℕ). slice_get (values ++ candidates) (n + place)) first ∙ slice_get_right values candidates place ∙ e;
 }
 
 candidates_kept : (candidates values more : List ℕ) (row : LoadRow) → TellsCandidates candidates values row → TellsCandidates candidates (values ++ more) row
 candidates_kept candidates values more row told = record {
   count_is = told.count_is;
+  end_fits = told.end_fits;
   stand = λ place value e. slice_get-append_left values more (row.first + place) value (told.stand place value e);
 }
 
 pub lists_more : (p : Program) (rank : ℕ) (loads : List LoadRow) (values : List ℕ) (places more : List PlaceRow) (row : LoadRow) → ListsLoads p rank loads values places
-    → row.first ≡ length values → row.count ≡ length (candidates_at p rank) → length more ≡ rank * (store_count p + 1) + (store_count p + 1) → TellsPlaces p more
+    → row.first ≡ length values → row.count ≡ length (candidates_at p rank) → row.first + length (candidates_at p rank) < 2 ^ 64 → length more ≡ rank * (store_count p + 1) + (store_count p + 1) → TellsPlaces p more
     → ListsLoads p (rank + 1) (loads ++ row ∷ []) (values ++ candidates_at p rank) more
-lists_more p rank loads values places more row before first count long tells =
+lists_more p rank loads values places more row before first count fits long tells =
     let one = before.one_row_each in
     let added = length-append loads (row ∷ []) in
     let size : (rank + 1) * (store_count p + 1) ≡ rank * (store_count p + 1) + (store_count p + 1) = grind arith in
@@ -155,7 +157,7 @@ lists_more p rank loads values places more row before first count long tells =
           (λ (last : (r ≡ length loads) × (row ≡ found)).
           subst (λ (f : LoadRow). TellsCandidates (candidates_at p r) (values ++ candidates_at p rank) f) last.1
           (subst (λ (k : ℕ). TellsCandidates (candidates_at p k) (values ++ candidates_at p rank) row) (sym (last.0 ∙ one))
-          (candidates_told (candidates_at p rank) values row first count)))
+          (candidates_told (candidates_at p rank) values row first count fits)))
           (slice_get_cases_end loads row r found e);
       one_place_each = long ∙ sym size;
       places_tell = tells;

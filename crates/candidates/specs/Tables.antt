@@ -1,5 +1,5 @@
 -- The list of the candidates of all loads, and the table of places.
-use Rattle.std.specs.Prelude.{◌≡◌, ℕ, ◌+◌, ◌*◌, ◌≤◌, List, length, Option, Some, None, slice_get, if◌then◌else◌}
+use Rattle.std.specs.Prelude.{◌≡◌, ℕ, ◌+◌, ◌*◌, ◌^◌, ◌<◌, ◌≤◌, List, length, Option, Some, None, slice_get, if◌then◌else◌}
 use Rattle.candidates.specs.declared.candidate_lists.LoadRow.{LoadRow}
 use Rattle.candidates.specs.declared.candidate_lists.PlaceRow.{PlaceRow}
 use Rattle.candidates.specs.ByRank.{FindsPlace, candidates_at}
@@ -9,6 +9,7 @@ use Rattle.test_lang.specs.Values.{store_count}
 -- The row tells where the candidates stand in the list of those of all loads.
 pub record TellsCandidates (candidates values : List ℕ) (row : LoadRow) : Type 0 where
   pub count_is : row.count ≡ length candidates
+  pub end_fits : row.first + length candidates < 2 ^ 64
   pub stand : (place value : ℕ) → slice_get candidates place ≡ Some value → slice_get values (row.first + place) ≡ Some value
 
 -- what a row tells

@@ -7,21 +7,24 @@ use Rattle.candidates.proofs.TableReads.{lists_of, row_told}
 use Rattle.candidates.proofs.candidate_table.Candidates.at.Goals as goal
 use Rattle.candidates.proofs.candidate_table.Candidates.at.Goals.{After-index}
 
--- where the candidate stands in the list
-stands : (c : After-index) → slice_get c.self.inside.lists.values.items (c.index.result.now.first + c.args.place) ≡ Some (get_or (candidates_at c.args.self.now c.args.rank) c.args.place 0)
-stands c =
+told : (c : After-index) → TellsCandidates (candidates_at c.args.self.now c.args.rank) c.self.inside.lists.values.items c.index.result.now
+told c =
     let p = c.args.self.now in
     let i = c.self.inside in
     let lists = lists_of i.test p i.lists.loads.items i.lists.values.items i.lists.places.items c.self.view_is c.self.invariant.2 in
-    let told = row_told p i.lists.loads.items i.lists.values.items i.lists.places.items lists c.args.rank c.index.result.now c.requires.rank c.index.ensures in
-    told.stand c.args.place (get_or (candidates_at p c.args.rank) c.args.place 0) (slice_get-get_or (candidates_at p c.args.rank) c.args.place 0 c.requires.place)
+    row_told p i.lists.loads.items i.lists.values.items i.lists.places.items lists c.args.rank c.index.result.now c.requires.rank c.index.ensures
+
+-- where the candidate stands in the list
+stands : (c : After-index) → slice_get c.self.inside.lists.values.items (c.index.result.now.first + c.args.place) ≡ Some (get_or (candidates_at c.args.self.now c.args.rank) c.args.place 0)
+stands c =
+    let candidates = candidates_at c.args.self.now c.args.rank in
+    (told c).stand c.args.place (get_or candidates c.args.place 0) (slice_get-get_or candidates c.args.place 0 c.requires.place)
 
 pub overflow_add-index : goal.overflow_add-index
 overflow_add-index c =
-    let values = c.self.inside.lists.values in
-    let within = slice_get_within values.items (c.index.result.now.first + c.args.place) _ (stands (goal.at.overflow_add-index c).After-index) in
-    let long = values.ok in
-    ?
+    let fits = (told (goal.at.overflow_add-index c).After-index).end_fits in
+    let lt = c.requires.place in
+    record { fits = omega (arith, fits, lt) }
 
 pub index-requires-2 : goal.index-requires-2
 index-requires-2 c =
