@@ -1,10 +1,10 @@
 -- The candidates of one load more in the list, and the rows of its values.
-use Rattle.std.proofs.Common.{◌≡◌, ◌∙◌, ℕ, zero, suc, ◌+◌, ◌-◌, ◌*◌, ◌^◌, ◌<◌, ◌≤◌, List, [], ◌∷◌, ◌++◌, Bool, true, false, not, ◌&&◌, cond, map, take, length, get_or, Option, None, Some, Contains, refl, ap, arith, sym, subst, ⊎_elim, append_assoc, length-append}
+use Rattle.std.proofs.Common.{◌≡◌, ◌∙◌, ℕ, zero, suc, ◌+◌, ◌-◌, ◌*◌, ◌^◌, ◌<◌, ◌≤◌, List, [], ◌∷◌, ◌++◌, Bool, true, false, cond, length, get_or, None, Some, Contains, refl, ap, arith, sym, subst, ⊎_elim, append_assoc, length-append}
 use Rattle.std.specs.Prelude.{◌==◌, filter, if◌then◌else◌, slice_get}
-use Rattle.std.proofs.lemmas.Bool.{and_parts, eq-eqb, ne_eqb, cases_eq}
+use Rattle.std.proofs.lemmas.Bool.{eq-eqb, ne_eqb, cases_eq}
 use Rattle.std.proofs.lemmas.Option.{get_or_from_slice_get, same_Some, slice_get-get_or, slice_get_within}
 use Rattle.orders.proofs.Members.{Contains-filter_back, Contains-map_back}
-use Rattle.test_lang.specs.Program.{Program, all_nodes, op_count}
+use Rattle.test_lang.specs.Program.{Program, all_nodes}
 use Rattle.test_lang.specs.Tables.{store_nodes}
 use Rattle.test_lang.specs.Values.{is_store_at, load_count, store_count, value_of}
 use Rattle.test_lang.specs.Runs.{base, others, candidates}
@@ -17,7 +17,7 @@ use Rattle.candidates.specs.Loads.{is_other_store}
 use Rattle.candidates.specs.Tables.{ListsLoads, TellsCandidates, TellsPlaces}
 use Rattle.candidates.proofs.CandidateLaws.{candidates_distinct, rank_is_load}
 use Rattle.candidates.proofs.Finds.{finds_here, finds_nowhere, slice_get_right}
-use Rattle.candidates.proofs.LoadCandidates.{other_is_store, others_below, others_below-all, others_below-front, others_below-suc}
+use Rattle.candidates.proofs.LoadCandidates.{other_is_store, others_below, others_below-front, others_below-suc}
 
 -- a value of the list of others is that of a store of them
 record IsOtherValue (p : Program) (load value : ℕ) : Type 0 where

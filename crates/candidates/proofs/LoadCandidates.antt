@@ -1,10 +1,9 @@
 -- The candidates of a load, by the nodes of the test.
-use Rattle.std.proofs.Common.{◌≡◌, ◌∙◌, ℕ, suc, ◌+◌, ◌<◌, ◌≤◌, List, [], ◌∷◌, ◌++◌, Bool, true, false, not, ◌&&◌, cond, map, take, drop, length, get_or, Option, None, Some, refl, ap, arith, sym, ⊎_elim, append_assoc, append-nil}
+use Rattle.std.proofs.Common.{◌≡◌, ◌∙◌, ℕ, suc, ◌<◌, ◌≤◌, List, [], ◌∷◌, ◌++◌, Bool, true, false, not, ◌&&◌, cond, map, take, drop, Option, None, Some, refl, ap, arith, sym, ⊎_elim}
 use Rattle.std.specs.Prelude.{◌==◌, filter, nat_lt, slice_get}
 use Rattle.std.specs.Option.{option_map_or}
-use Rattle.std.proofs.lemmas.Bool.{and_parts, cases_lt, cases_order, eq-eqb, lt-ltb, ltb-true}
+use Rattle.std.proofs.lemmas.Bool.{and_parts, cases_lt, eq-eqb, lt-ltb, ltb-true}
 use Rattle.std.proofs.lemmas.List.{map-append, take-append-drop, take_all}
-use Rattle.std.proofs.lemmas.Option.{same_Some}
 use Rattle.std.proofs.lemmas.List.Elements.{filter-append}
 use Rattle.orders.specs.Orders.{nodes_below}
 use Rattle.test_lang.specs.declared.op.Op.{Op}
@@ -12,7 +11,7 @@ use Rattle.test_lang.specs.declared.op.Op.TheVariants.{Load, Store, Fence}
 use Rattle.test_lang.specs.Program.{Program, nodes, all_nodes, op_count, passes, passes_after}
 use Rattle.test_lang.specs.Tables.{store_nodes}
 use Rattle.test_lang.specs.Values.{is_store, is_store_at, is_store_to, is_of, same_word, same_thread, one_word, store_count, value_of}
-use Rattle.test_lang.specs.Runs.{own_earlier, writes_for, base, base_store, others, candidates}
+use Rattle.test_lang.specs.Runs.{own_earlier, writes_for, base, base_store, others}
 use Rattle.test_lang.proofs.BaseStores.{LastBelow, base_store_below}
 use Rattle.test_lang.proofs.BaseStores.LastBelow.{nothing, last}
 use Rattle.test_lang.proofs.Places.{places, take-slice_get}

@@ -1,7 +1,6 @@
 -- What is read in the list and in the tables.
-use Rattle.std.proofs.Common.{◌≡◌, ◌∙◌, ℕ, ◌+◌, ◌*◌, ◌<◌, ◌≤◌, List, length, get_or, None, Some, refl, ap, arith, sym, subst}
-use Rattle.std.specs.Prelude.{slice_get}
-use Rattle.std.proofs.lemmas.Option.{slice_get-get_or, slice_get_read, slice_get_within}
+use Rattle.std.proofs.Common.{◌≡◌, ℕ, ◌+◌, ◌*◌, ◌<◌, ◌≤◌, List, length, get_or, None, refl, arith, sym, subst}
+use Rattle.std.proofs.lemmas.Option.{slice_get_read}
 use Rattle.test_lang.specs.Program.{Program}
 use Rattle.test_lang.specs.Values.{load_count, store_count}
 use Rattle.candidates.specs.declared.candidate_lists.LoadRow.{LoadRow}

@@ -1,4 +1,4 @@
-use Rattle.std.proofs.Common.{◌≡◌, ◌∙◌, ◌<◌, ◌-◌, ◌≤◌, ℕ, false, true, Some, refl, ap, arith, sym, ⊎_elim, rules}
+use Rattle.std.proofs.Common.{◌≡◌, ◌∙◌, ◌<◌, ◌-◌, ◌≤◌, ℕ, true, refl, ap, arith, sym, ⊎_elim, rules}
 use Rattle.std.proofs.lemmas.Bool.{cases_lt, eq-eqb}
 use Rattle.test_lang.specs.declared.op.Op.TheVariants.{Load, Store}
 use Rattle.test_lang.specs.Runs.{own_earlier}

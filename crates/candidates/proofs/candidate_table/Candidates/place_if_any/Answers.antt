@@ -1,4 +1,4 @@
-use Rattle.std.proofs.Common.{◌≡◌, ◌∙◌, ◌+◌, ◌*◌, ◌<◌, ◌≤◌, ℕ, get_or, ap, arith}
+use Rattle.std.proofs.Common.{◌≡◌, ◌∙◌, ◌+◌, ◌*◌, ℕ, get_or, ap, arith}
 use Rattle.test_lang.specs.Values.{store_count}
 use Rattle.candidates.specs.ByRank.{candidates_at}
 use Rattle.candidates.proofs.Finds.{finds-lacks}
