@@ -25,15 +25,15 @@ pub(crate) struct PlaceRow {
 }
 
 impl PlaceRow {
-    /// The row of a value. If it is of another thread's store, it stands at the place `next`.
-    fn of(load: LoadNode, value: u32, is_other: bool, next: usize) -> PlaceRow
+    /// The row of a value of a load with that base. If it is of another thread's store, it stands at the place `next`.
+    fn of(base: u32, value: u32, is_other: bool, next: usize) -> PlaceRow
         requires { next < 2 ^ 16 }
         ensures { told_place result
-            ≡ (if is_other then Some next else if value == load.base then Some 0 else None) }
+            ≡ (if is_other then Some next else if value == base then Some 0 else None) }
     {
         PlaceRow {
             place: if is_other { next as u16 } else { 0 },
-            is_candidate: is_other || value == load.base,
+            is_candidate: is_other || value == base,
         }
     }
 }
@@ -77,13 +77,14 @@ impl CandidateLists {
             self.new.loads.items self.new.values.items self.new.places.items) }
     {
         let load = LoadNode::of(test, rank);
+        let base = load.base(test);
         let first = self.values.len();
-        self.values.push(load.base)?;
-        self.places.push(PlaceRow::of(load, 0, false, 0))?;
+        self.values.push(base)?;
+        self.places.push(PlaceRow::of(base, 0, false, 0))?;
         for value in 1..test.stores() + 1 {
             let is_other = load.is_other(test, test.store_of(value));
             let next = self.values.len() - first;
-            self.places.push(PlaceRow::of(load, value, is_other, next))?;
+            self.places.push(PlaceRow::of(base, value, is_other, next))?;
             if is_other {
                 self.values.push(value)?;
             }

@@ -1,8 +1,8 @@
 //! A load, and which values are its candidates.
-ghost use Rattle.std.specs.Prelude.{◌≡◌, ◌<◌, IsTrue, Some, length};
+ghost use Rattle.std.specs.Prelude.{◌≡◌, ◌<◌, IsTrue, Some};
 ghost use Rattle.candidates.specs.ByRank.{load_at};
 ghost use Rattle.candidates.specs.Loads.{IsLoadNode, is_other_store};
-ghost use Rattle.test_lang.specs.Program.{op_at, op_count, thread_at};
+ghost use Rattle.test_lang.specs.Program.{op_at, op_count};
 ghost use Rattle.test_lang.specs.Runs.{base};
 ghost use Rattle.test_lang.specs.Values.{is_load_at, load_count};
 
@@ -15,8 +15,6 @@ pub(crate) struct LoadNode {
     pub node: u32,
     pub thread: u32,
     pub word: u32,
-    /// The first candidate.
-    pub base: u32,
 }
 
 /// The word of a load.
@@ -30,22 +28,6 @@ fn word_of(test: &Test, load: u32) -> u32
     }
 }
 
-/// The value of the last earlier store to the load's word in its own thread, or the initial value 0 where there is none.
-fn base_of(test: &Test, load: u32, thread: u32, word: u32) -> u32
-    requires thread { thread_at test.now load ≡ Some thread }
-    requires word { op_at test.now load ≡ Some (Op.Load word) }
-    requires in_range { thread < length test.now.threads }
-    requires node { load < op_count test.now }
-    ensures { result ≡ base test.now load }
-{
-    for node in (test.first_of(thread)..load).rev() {
-        if test.op(node) == (Op::Store { word }) {
-            return test.value_of(node);
-        }
-    }
-    0
-}
-
 impl LoadNode {
     /// The load of a rank.
     pub fn of(test: &Test, rank: u32) -> LoadNode
@@ -54,14 +36,24 @@ impl LoadNode {
         ensures load { IsLoadNode test.now result }
     {
         let node = test.load_at(rank);
-        let thread = test.thread_of(node);
-        let word = word_of(test, node);
         LoadNode {
             node,
-            thread,
-            word,
-            base: base_of(test, node, thread, word),
+            thread: test.thread_of(node),
+            word: word_of(test, node),
         }
+    }
+
+    /// The value of the last earlier store to the load's word in its own thread, or the initial value 0 where there is none.
+    pub fn base(self, test: &Test) -> u32
+        requires { IsLoadNode test.now self }
+        ensures { result ≡ base test.now self.node }
+    {
+        for node in (test.first_of(self.thread)..self.node).rev() {
+            if test.op(node) == (Op::Store { word: self.word }) {
+                return test.value_of(node);
+            }
+        }
+        0
     }
 
     /// Whether a store is one to the load's word in another thread.

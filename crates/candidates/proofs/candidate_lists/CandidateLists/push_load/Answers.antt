@@ -12,10 +12,10 @@ use Rattle.candidates.proofs.Listing.{initial_found, listed, lists_more, others_
 use Rattle.candidates.proofs.LoadCandidates.{others_below, others_below-all}
 use Rattle.candidates.proofs.PlaceRows.{tells_push}
 use Rattle.candidates.proofs.candidate_lists.CandidateLists.push_load.Goals as goal
-use Rattle.candidates.proofs.candidate_lists.CandidateLists.push_load.Goals.{After-of-load, After-len, After-loop-value, then-is_other+in_ok-push-4, else-is_other}
+use Rattle.candidates.proofs.candidate_lists.CandidateLists.push_load.Goals.{After-base-base, After-len, After-loop-value, then-is_other+in_ok-push-4, else-is_other}
 
-base_is : (c : After-of-load) → c.of-load.result.base ≡ base c.args.test.now (load_at c.args.test.now c.args.rank)
-base_is c = c.of-load.ensures.load.has_base ∙ ap (base c.args.test.now) c.of-load.ensures.rank
+base_is : (c : After-base-base) → c.base-base.result ≡ base c.args.test.now (load_at c.args.test.now c.args.rank)
+base_is c = c.base-base.ensures ∙ ap (base c.args.test.now) c.of-load.ensures.rank
 
 longer : (places new : List PlaceRow) (row : PlaceRow) → new ≡ places ++ row ∷ [] → length new ≡ length places + 1
 longer places new row e = ap length e ∙ length-append places (row ∷ [])
@@ -27,7 +27,7 @@ loop-value-init c =
     let before = c.requires.before in
     let old = c.args.self.now.places.items in
     let new = c.push-2.new.self.items in
-    let is = base_is (goal.at.loop-value-init c).After-of-load in
+    let is = base_is (goal.at.loop-value-init c).After-base-base in
     let items : new ≡ old ++ c.of.result ∷ [] = c.in_ok-push-2.ensures.items in
     let more = longer old new c.of.result items in
     let long = before.one_place_each in
@@ -77,7 +77,7 @@ loop-value-preserved c =
     let other : b ≡ is_other_store p load node = c.is_other-is_other.ensures ∙ ap (λ (n : ℕ). is_other_store p n node) c.of-load.ensures.rank in
     let next : ℕ = c.len.result - c.len-first.result in
     let at = next_is (goal.at.loop-value-preserved c).After-len in
-    let is = base_is (goal.at.loop-value-preserved c).After-of-load in
+    let is = base_is (goal.at.loop-value-preserved c).After-base-base in
     let row = c.of-in-loop-value.result in
     let places = c.loop-value.self.places.items in
     let rows = c.push-in-loop-value.new.self.items in
