@@ -66,7 +66,7 @@ module _ (p : Program) (value node : ℕ) (some : 1 ≤ value) (few : value ≤ 
       here ∙ ap Some (one_store p other node (store_nodes-is_store p (value - 1) other here) store same)
 
   -- the candidates behind the base, as far as the store goes
-  pub others_more : (load : ℕ) → others_below p load value ≡ others_below p load (value - 1) ++ cond (is_other_store p load node) (value ∷ []) []
+  others_more : (load : ℕ) → others_below p load value ≡ others_below p load (value - 1) ++ cond (is_other_store p load node) (value ∷ []) []
   others_more load =
       let next : value ≡ suc (value - 1) = omega (arith, some) in
       ap (others_below p load) next

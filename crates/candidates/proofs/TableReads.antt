@@ -20,7 +20,7 @@ module _ (p : Program) (loads : List LoadRow) (values : List ℕ) (places : List
   pub row_told : (rank : ℕ) (row : LoadRow) → rank < load_count p → row ≡ get_or loads rank row → TellsCandidates (candidates_at p rank) values row
   row_told rank row lt e = t.loads_tell rank row (slice_get_read loads (load_count p) rank row (sym t.one_row_each) lt e)
 
-  pub place_lt : (rank value : ℕ) → rank < load_count p → value < store_count p + 1 → rank * (store_count p + 1) + value < length places
+  place_lt : (rank value : ℕ) → rank < load_count p → value < store_count p + 1 → rank * (store_count p + 1) + value < length places
   place_lt rank value lt few = let one = t.one_place_each in let within = place-within (load_count p) (store_count p + 1) rank value lt few in omega (arith, one, within)
 
   pub place_found : (rank value : ℕ) (row : PlaceRow) → rank < load_count p → value < store_count p + 1 → row ≡ get_or places (rank * (store_count p + 1) + value) row → FindsPlace (candidates_at p rank) value (told_place row)

@@ -16,8 +16,8 @@ use test_lang::test::Test;
 #[derive(Debug, Drop)]
 pub struct Candidates {
     test: Test,
-    /// How many values the test has: one more than stores, with the initial value.
-    values: usize,
+    /// The number of stores and one more, for the initial value.
+    value_count: usize,
     lists: CandidateLists,
 }
 
@@ -32,7 +32,7 @@ impl Model for Candidates {
     ghost view = { λ c. c.test };
 
     ghost invariant = { λ c.
-        IsWithinLimits c.test × (c.values ≡ store_count c.test + 1)
+        IsWithinLimits c.test × (c.value_count ≡ store_count c.test + 1)
         × ListsLoads c.test (load_count c.test)
         c.lists.loads.items c.lists.values.items c.lists.places.items };
 }
@@ -47,7 +47,7 @@ impl Candidates {
         let _words = test.words();
         Ok(Candidates {
             test: test.clone()?,
-            values: test.stores() as usize + 1,
+            value_count: test.stores() as usize + 1,
             lists,
         })
     }
@@ -106,10 +106,10 @@ impl Candidates {
         ensures found { FindsPlace (candidates_at self.now rank) value
             (if result.1 then Some result.0 else None) }
     {
-        if self.values <= value as usize {
+        if self.value_count <= value as usize {
             return (0, false);
         }
-        let row = self.lists.places[rank as usize * self.values + value as usize];
+        let row = self.lists.places[rank as usize * self.value_count + value as usize];
         (u32::from(row.place), row.is_candidate)
     }
 
