@@ -156,6 +156,6 @@ returns c =
     let row : LoadRow = record { first = c.len-first.result; count = c.len-2.result - c.len-first.result } in
     let loads : c.push-3.new.self.items ≡ c.args.self.now.loads.items ++ row ∷ [] = c.in_ok-push-5.ensures.items ∙ ap (λ (rows : List LoadRow). rows ++ row ∷ []) c.loop-value.invariant.loads in
     let more = lists_more p c.args.rank c.args.self.now.loads.items c.args.self.now.values.items c.args.self.now.places.items c.loop-value.self.places.items row c.requires.before
-        (omega (arith, first, short)) (omega (arith, all, len, first)) (omega (arith, all, len, first, fits)) (omega (arith, long, last)) c.loop-value.invariant.places in
+    (omega (arith, first, short)) (omega (arith, all, len, first)) (omega (arith, all, len, first, fits)) (omega (arith, long, last)) c.loop-value.invariant.places in
     subst (λ (rows : List LoadRow). ListsLoads p (c.args.rank + 1) rows c.loop-value.self.values.items c.loop-value.self.places.items) (sym loads)
     (subst (λ (list : List ℕ). ListsLoads p (c.args.rank + 1) (c.args.self.now.loads.items ++ row ∷ []) list c.loop-value.self.places.items) (sym (all_listed end)) more)
