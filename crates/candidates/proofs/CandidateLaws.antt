@@ -14,7 +14,7 @@ use Rattle.test_lang.proofs.Places.{length-places_all, passing, passing-lt, plac
 use Rattle.test_lang.proofs.Ranks.{length-load_nodes, load_nodes-is_load, one_store, value_of-le}
 use Rattle.candidates.specs.ByRank.{candidates_at, load_at}
 use Rattle.candidates.proofs.LoadCandidates.{other_store, others-are}
-use Rattle.candidates.proofs.Lookups.{base_is_no_other, base_le, count_by_disjoint, store_no_load, store_to_is_store}
+use Rattle.candidates.proofs.Bases.{base_is_no_other, base_le, count_by_disjoint, store_no_load, store_to_is_store}
 
 -- the word and the thread of a load
 

@@ -1,9 +1,9 @@
-pub mod StoreSteps
-pub mod Blocks
-pub mod LoadCandidates
-pub mod OwnBlocks
-pub mod Lookups
-pub mod RunLemmas
+pub mod Bases
 pub mod CandidateLaws
-pub mod WordRows
+pub mod Finds
+mod Listing
+pub mod LoadCandidates
 mod PlaceRows
+pub mod RunLemmas
+mod TableReads
+pub mod ThreadNodes

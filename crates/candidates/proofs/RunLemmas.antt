@@ -15,7 +15,7 @@ use Rattle.test_lang.specs.Values.{load_count, load_nodes}
 use Rattle.test_lang.specs.Runs.{candidates, value_read, reads_candidate, first_outside}
 use Rattle.test_lang.proofs.Ranks.{length-load_nodes, load_nodes-rank}
 use Rattle.candidates.specs.ByRank.{FindsPlace, GivesCandidates, candidates_at, load_at}
-use Rattle.candidates.proofs.Lookups.{finds-lacks, finds-contains, finds-position}
+use Rattle.candidates.proofs.Finds.{finds-lacks, finds-contains, finds-position}
 
 -- whether the value of a row is a candidate's
 

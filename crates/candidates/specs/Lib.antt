@@ -1,5 +1,3 @@
 pub mod ByRank
-pub mod Stores
-pub mod Reading
+pub mod Loads
 pub mod Tables
-pub mod Places

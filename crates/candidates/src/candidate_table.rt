@@ -1,4 +1,4 @@
-//! Candidates in tables that answer in constant time. They have a row for each store, for each load, and for each value and load.
+//! Candidates in tables that answer in constant time: a list of the candidates of all loads, and a row for each value and load.
 ghost use Rattle.std.specs.Prelude.{◌≡◌, ◌<◌, ◌≤◌, ◌↔◌, ◌==◌, ℕ, length, position, Contains, IfOk, IfSome, IsNone, IsTrue, None, Some, if◌then◌else◌, slice_get};
 ghost use Rattle.std.specs.Bool.{OnTrue};
 ghost use Rattle.std.specs.Option.{option_map};
@@ -7,9 +7,7 @@ ghost use Rattle.test_lang.specs.Program.{IsWithinLimits};
 ghost use Rattle.test_lang.specs.Runs.{first_outside};
 ghost use Rattle.test_lang.specs.Values.{load_count};
 
-use crate::load_rows::{LoadRow, list_loads};
-use crate::place_table::{PlaceRow, list_places};
-use crate::store_table::StoreTable;
+use crate::candidate_lists::CandidateLists;
 use std::alloc::{AllocError, Global};
 use std::marker::Model;
 use test_lang::test::Test;
@@ -18,25 +16,25 @@ use test_lang::test::Test;
 #[derive(Debug, Drop)]
 pub struct Candidates {
     test: Test,
-    /// By rank.
-    loads: Vec<LoadRow>,
-    stores: StoreTable,
-    /// By value, those for the first load first.
-    places: Vec<PlaceRow>,
+    /// The number of stores and one more, for the initial value.
+    value_count: usize,
+    lists: CandidateLists,
 }
 
 impl Model for Candidates {
-    ghost use Rattle.test_lang.specs.Program.{Program};
-    ghost use Rattle.candidates.specs.Places.{TabulatesPlaces};
-    ghost use Rattle.candidates.specs.Tables.{TabulatesCandidates};
+    ghost use Rattle.std.specs.Prelude.{◌≡◌, ◌+◌};
+    ghost use Rattle.test_lang.specs.Program.{Program, IsWithinLimits};
+    ghost use Rattle.test_lang.specs.Values.{load_count, store_count};
+    ghost use Rattle.candidates.specs.Tables.{ListsLoads};
 
     ghost Value = { Program };
 
     ghost view = { λ c. c.test };
 
     ghost invariant = { λ c.
-        TabulatesCandidates c.test c.loads.items c.stores.rows.items c.stores.values.items
-        × TabulatesPlaces c.loads.items c.stores.rows.items c.places.items };
+        IsWithinLimits c.test × (c.value_count ≡ store_count c.test + 1)
+        × ListsLoads c.test (load_count c.test)
+        c.lists.loads.items c.lists.values.items c.lists.places.items };
 }
 
 impl Candidates {
@@ -44,14 +42,13 @@ impl Candidates {
     pub fn of(alloc: Global, test: &Test) -> Result<Candidates, AllocError>
         ensures { IfOk result (λ candidates. candidates ≡ test.now) }
     {
-        let stores = StoreTable::of(alloc, test)?;
-        let loads = list_loads(alloc, test, &stores)?;
-        let places = list_places(alloc, &loads, &stores.rows)?;
+        let lists = CandidateLists::of(alloc, test)?;
+        // The limits of a test are told with its words.
+        let _words = test.words();
         Ok(Candidates {
             test: test.clone()?,
-            loads,
-            stores,
-            places,
+            value_count: test.stores() as usize + 1,
+            lists,
         })
     }
 
@@ -70,7 +67,7 @@ impl Candidates {
         ensures some { 1 ≤ result }
         ensures few { result ≤ 2048 }
     {
-        self.loads[rank as usize].count
+        self.lists.loads[rank as usize].count
     }
 
     /// The value of the candidate at a place, counted from 0. Which place that is, is up to chance, so no step branches on it.
@@ -79,9 +76,7 @@ impl Candidates {
         requires place { place < length (candidates_at self.now rank) }
         ensures { slice_get (candidates_at self.now rank) place ≡ Some result }
     {
-        let load = &self.loads[rank as usize];
-        let other = self.stores.values[load.table_place(place)];
-        [load.base, other][usize::from(place != 0)]
+        self.lists.values[self.lists.loads[rank as usize].first + place as usize]
     }
 
     /// The place of a value among the candidates.
@@ -111,11 +106,10 @@ impl Candidates {
         ensures found { FindsPlace (candidates_at self.now rank) value
             (if result.1 then Some result.0 else None) }
     {
-        let values = self.stores.rows.len();
-        if values <= value as usize {
+        if self.value_count <= value as usize {
             return (0, false);
         }
-        let row = self.places[rank as usize * values + value as usize];
+        let row = self.lists.places[rank as usize * self.value_count + value as usize];
         (u32::from(row.place), row.is_candidate)
     }
 

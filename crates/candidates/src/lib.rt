@@ -6,11 +6,9 @@
 //! whose value is no candidate's.
 #![tactic(auto)]
 
+mod candidate_lists;
 mod candidate_table;
-mod load_rows;
-mod place_table;
-mod store_lists;
-mod store_table;
+mod load_node;
 #[cfg(test)]
 mod tests;
 

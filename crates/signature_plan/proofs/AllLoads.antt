@@ -20,7 +20,7 @@ use Rattle.test_lang.proofs.Ranks.{load_nodes-rank_of}
 use Rattle.test_lang.proofs.Threads.{StandsIn, thread_at-stands, stands-thread_at, thread_end-le, first_node-suc, first_node_all}
 use Rattle.candidates.specs.ByRank.{candidates_at, load_at}
 use Rattle.candidates.proofs.CandidateLaws.{candidate_count-le}
-use Rattle.candidates.proofs.Blocks.{agree-more, none-more}
+use Rattle.signature_plan.proofs.Blocks.{agree-more, none-more}
 use Rattle.signature_plan.proofs.Concat.{concat-flat_map}
 use Rattle.signature_plan.proofs.Groups.{concat-groups_of}
 

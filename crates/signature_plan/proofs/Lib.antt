@@ -1,3 +1,4 @@
+mod Blocks
 pub mod Radix
 pub mod Concat
 pub mod Groups

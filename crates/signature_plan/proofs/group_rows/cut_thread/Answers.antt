@@ -6,7 +6,7 @@ use Rattle.test_lang.specs.Signatures.{candidate_count}
 use Rattle.test_lang.specs.Values.{rank_of, thread_loads}
 use Rattle.test_lang.proofs.Nodes.{is_load_at-op}
 use Rattle.test_lang.proofs.Threads.{StandsIn}
-use Rattle.candidates.proofs.OwnBlocks.{stands_in, thread_node}
+use Rattle.candidates.proofs.ThreadNodes.{thread_node}
 use Rattle.signature_plan.proofs.AllLoads.{loads_left, loads_left-first, loads_left-end, loads_left-other, loads_left-load, not_load, count_of_rank, thread_counts}
 use Rattle.signature_plan.proofs.GroupRows.{empty_group, rows_after, step_fits, step_full, last_open, none_open}
 use Rattle.signature_plan.proofs.group_rows.cut_thread.Goals as goal
@@ -58,8 +58,11 @@ with-open-requires-clause-product c = elim c.if-not-has_room.branch [
 stands : (c : goal.Joined-op) → StandsIn c.args.candidates.now c.args.thread c.loop-node.node
 stands c =
     let same = c.test-test.ensures.test in
-    stands_in c.args.candidates.now c.args.thread c.loop-node.node c.first_of-first.result c.len_of.result c.requires (c.first_of-first.ensures.first ∙ ap (λ p. first_node p c.args.thread) same)
-    (c.len_of.ensures.count ∙ ap (λ p. thread_length p c.args.thread) same) c.loop-node.auto.node c.loop-node-test.true
+    let first = c.first_of-first.ensures.first ∙ ap (λ p. first_node p c.args.thread) same in
+    let len = c.len_of.ensures.count ∙ ap (λ p. thread_length p c.args.thread) same in
+    let from = c.loop-node.auto.node in
+    let to = c.loop-node-test.true in
+    record { in_range = c.requires; from = omega (arith, first, from); to = omega (arith, first, len, to) }
 
 pub loop-node-preserved : goal.loop-node-preserved
 loop-node-preserved c =

@@ -1,7 +1,7 @@
 use Rattle.std.proofs.Common.{Bool, None, Some, subst}
 use Rattle.std.specs.Prelude.{if◌then◌else◌}
 use Rattle.candidates.specs.ByRank.{FindsPlace, candidates_at}
-use Rattle.candidates.proofs.Lookups.{finds-none, finds-position}
+use Rattle.candidates.proofs.Finds.{finds-none, finds-position}
 use Rattle.candidates.proofs.candidate_table.Candidates.index.Goals as goal
 
 -- where the value is a candidate's
