@@ -1,0 +1,4 @@
+pub mod SoFar
+pub mod Joining
+pub mod Whole
+pub mod FewPieces
