@@ -13,11 +13,20 @@ module _ (es : List (ℕ × ℕ)) (nodes : ℕ) (window waiting : List ℕ) (mar
   pub clean-marks : (t : ℕ) → is_marked marks t ≡ false
   clean-marks t = false_from_ne_true (is_marked marks t) (λ mark. false≢true (sym (unmarked t (w.only t mark)) ∙ mark))
 
-  pub clean-counts : length waiting ≡ nodes → (t : ℕ) → get_or waiting t 0 ≡ 0
-  clean-counts whole t = elim (cases_lt t nodes) [
-    | inl lt ↦ w.counted t lt ∙ ap (λ (xs : List ℕ). count_into es xs t) (marked-none marks window unmarked)
-    | inr ge ↦ get_or_past waiting t 0 (omega (arith, ge, whole))
-  ]
+  pub clean-counts : (t : ℕ) → t < nodes → get_or waiting t 0 ≡ 0
+  clean-counts t lt = w.counted t lt ∙ ap (λ (xs : List ℕ). count_into es xs t) (marked-none marks window unmarked)
+
+-- where no node waits, and 0 is written at the place of no node, none waits
+pub spare-clean : (nodes : ℕ) (waiting : List ℕ) → length waiting ≡ nodes + 1 → ((t : ℕ) → t < nodes → get_or waiting t 0 ≡ 0) → (t : ℕ) → get_or (set waiting nodes 0) t 0 ≡ 0
+spare-clean nodes waiting whole zeros t = elim (cases_eq t nodes) [
+  | inl same ↦ subst (λ (m : ℕ). get_or (set waiting nodes 0) m 0 ≡ 0) (sym same) (get_or-set_same waiting nodes 0 0 (omega (arith, whole)))
+  | inr other ↦
+      get_or-set_other waiting nodes t 0 0 other
+      ∙ elim (cases_lt t nodes) [
+        | inl lt ↦ zeros t lt
+        | inr ge ↦ get_or_past waiting t 0 (omega (arith, ge, whole, other))
+      ]
+]
 
 module _ (es : List (ℕ × ℕ)) (nodes : ℕ) (window : List ℕ) (i : ℕ) (waiting : List ℕ) (marks : List Bool) (lt : i < length window) (w : IsWaiting es nodes (drop i window) waiting marks) where
   parted : drop i window ≡ get_or window i 0 ∷ drop (i + 1) window

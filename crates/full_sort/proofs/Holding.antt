@@ -61,6 +61,22 @@ holds-gained ready gained kept waiting after marks free settled fall gains t = (
   (λ f. (gains t).1 (elim (cases_eq (get_or waiting t 0) 0) [ inl zeros ↦ inl ((free t).1 (zeros, f.1)) | inr some ↦ inr (some, f.0) ])),
 )
 
+-- and where a node that waits no more is held if it is marked
+pub holds-marked : (ready gained : List ℕ) (kept : Option ℕ) (n : ℕ) (waiting after : List ℕ) (marks : List Bool) → HasFree ready waiting marks → ((t : ℕ) → is_marked marks t ≡ true → t < n) →
+    ((t : ℕ) → t < n → get_or after t 0 ≤ get_or waiting t 0) →
+    ((t : ℕ) → IsHeld gained kept t ↔ ((bit_of ready t ≡ 1) ⊎ ((t < n) × (get_or waiting t 0 ≢ 0) × (get_or after t 0 ≡ 0) × (is_marked marks t ≡ true)))) → HoldsFree gained kept after marks
+holds-marked ready gained kept n waiting after marks free within fall gains t = (
+  (λ h. ⊎_elim (λ b. let f = (free t).0 b in let zeros = f.0 in let le = fall t (within t f.1) in (omega (arith, zeros, le), f.1)) (λ f. (f.2, f.3)) ((gains t).0 h)),
+  (λ f. (gains t).1 (elim (cases_eq (get_or waiting t 0) 0) [ inl zeros ↦ inl ((free t).1 (zeros, f.1)) | inr some ↦ inr (within t f.1, some, f.0, f.1) ])),
+)
+
+-- a node with a mark is one of those that can have one
+pub mark-within : (marks : List Bool) (t : ℕ) → is_marked marks t ≡ true → t < length marks
+mark-within marks t mark = elim (cases_lt t (length marks)) [
+  | inl lt ↦ lt
+  | inr ge ↦ absurd (false≢true (sym (get_or_past marks t false ge) ∙ mark))
+]
+
 -- The counts of the nodes alone, without that of no node.
 module _ (n : ℕ) (counts : List ℕ) (long : length counts ≡ n + 1) where
   pub front-at : (t : ℕ) → t < n → get_or (take n counts) t 0 ≡ get_or counts t 0
@@ -80,12 +96,24 @@ module _ (n : ℕ) (counts after : List ℕ) (long : length counts ≡ n + 1) (l
       let two = front-at n after long_after t lt in
       omega (arith, step, one, two)
 
-  pub front-gained : (H B : ℕ → Type 0) → ((t : ℕ) → H t ↔ (B t ⊎ ((t < n) × (get_or counts t 0 ≢ 0) × (get_or after t 0 ≡ 0)))) → (t : ℕ) → H t ↔ (B t ⊎ ((get_or (take n counts) t 0 ≢ 0) × (get_or (take n after) t 0 ≡ 0)))
-  front-gained H B gained t = (
-    (λ h. ⊎_elim (λ b. inl b) (λ f. inr ((λ zeros. f.1 (sym (front-at n counts long t f.0) ∙ zeros)), front-at n after long_after t f.0 ∙ f.2)) ((gained t).0 h)),
+  pub front-gained : (H B M : ℕ → Type 0) → ((t : ℕ) → H t ↔ (B t ⊎ ((t < n) × (get_or counts t 0 ≢ 0) × (get_or after t 0 ≡ 0) × M t))) → (t : ℕ) → H t ↔ (B t ⊎ ((get_or (take n counts) t 0 ≢ 0) × (get_or (take n after) t 0 ≡ 0) × M t))
+  front-gained H B M gained t = (
+    (λ h. ⊎_elim (λ b. inl b) (λ f. inr ((λ zeros. f.1 (sym (front-at n counts long t f.0) ∙ zeros)), front-at n after long_after t f.0 ∙ f.2, f.3)) ((gained t).0 h)),
     (λ h. (gained t).1 (⊎_elim (λ b. inl b)
         (λ f. elim (cases_lt t n) [
-          | inl lt ↦ inr (lt, (λ zeros. f.0 (front-at n counts long t lt ∙ zeros)), sym (front-at n after long_after t lt) ∙ f.1)
+          | inl lt ↦ inr (lt, (λ zeros. f.0 (front-at n counts long t lt ∙ zeros)), sym (front-at n after long_after t lt) ∙ f.1, f.2)
           | inr ge ↦ absurd (f.0 (front-past n counts long t ge))
         ]) h)),
   )
+
+  -- a mark that all nodes have says nothing
+  pub front-gained-all : (H B M : ℕ → Type 0) → ((t : ℕ) → t < n → M t) → ((t : ℕ) → H t ↔ (B t ⊎ ((t < n) × (get_or counts t 0 ≢ 0) × (get_or after t 0 ≡ 0) × M t))) → (t : ℕ) → H t ↔ (B t ⊎ ((get_or (take n counts) t 0 ≢ 0) × (get_or (take n after) t 0 ≡ 0)))
+  front-gained-all H B M all gained t =
+      let front = front-gained H B M gained t in (
+        (λ h. ⊎_elim (λ b. inl b) (λ f. inr (f.0, f.1)) (front.0 h)),
+        (λ h. front.1 (⊎_elim (λ b. inl b)
+            (λ f. elim (cases_lt t n) [
+              | inl lt ↦ inr (f.0, f.1, all t lt)
+              | inr ge ↦ absurd (f.0 (front-past n counts long t ge))
+            ]) h)),
+      )

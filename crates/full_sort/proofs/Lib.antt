@@ -32,3 +32,4 @@ mod Gained
 mod Without
 mod Releases
 mod Holding
+mod Raises

@@ -1,5 +1,5 @@
 -- What the release of a node's targets leaves.
-use Rattle.std.proofs.Common.{◌≡◌, ◌≢◌, ◌∙◌, ◌↔◌, ◌⊎◌, ℕ, ◌+◌, ◌-◌, ◌<◌, ◌≤◌, List, [], ◌∷◌, ◌++◌, All, Bool, cond, eqb, ◌&&◌, Option, Some, None, length, get_or, set, take, drop, map, refl, sym, ap, subst, arith, inl, inr, ⊎_elim, get_or-set_same, get_or-set_other, ne_eqb, take-append-drop}
+use Rattle.std.proofs.Common.{◌≡◌, ◌≢◌, ◌∙◌, ◌↔◌, ◌⊎◌, ℕ, ◌+◌, ◌-◌, ◌<◌, ◌≤◌, List, [], ◌∷◌, ◌++◌, All, Bool, true, cond, eqb, ◌&&◌, Option, Some, None, length, get_or, set, take, drop, map, refl, sym, ap, subst, arith, inl, inr, ⊎_elim, get_or-set_same, get_or-set_other, ne_eqb, take-append-drop}
 use Rattle.std.specs.Prelude.{filter}
 use Rattle.std.proofs.lemmas.Bool.{cases_eq, cases_lt, cases_Bool, eq-eqb}
 use Rattle.std.proofs.lemmas.List.{map-append, drop_at, get_or_past}
@@ -8,29 +8,29 @@ use Rattle.std.proofs.lemmas.List.Sums.{sum_by-cons, sum_by-take-drop, count_by_
 use Rattle.digraph.proofs.AtHand.{length-targets}
 use Rattle.digraph.specs.Digraph.{out_degree, targets_from}
 use Rattle.full_sort.specs.Ready.{GainsFreed, times_in}
-use Rattle.full_sort.specs.Waiting.{count_between}
+use Rattle.full_sort.specs.Waiting.{count_between, is_marked}
 use Rattle.full_sort.proofs.Walk.{walk_start}
 
 abbrev one_if : Bool → ℕ
 one_if b = cond b 1 0
 
 -- one target waits for one edge less
-module _ (H0 H after : ℕ → Type 0) (w0 ws : List ℕ) (x : ℕ) (inside : x < length ws) (some : 1 ≤ get_or ws x 0) (le : get_or ws x 0 ≤ get_or w0 x 0) where
-  pub gained-step : GainsFreed H0 H w0 ws → ((t : ℕ) → after t ↔ (H t ⊎ ((t ≡ x) × (get_or ws x 0 ≡ 1)))) → GainsFreed H0 after w0 (set ws x (get_or ws x 0 - 1))
+module _ (H0 H after : ℕ → Type 0) (marks : List Bool) (w0 ws : List ℕ) (x : ℕ) (inside : x < length ws) (some : 1 ≤ get_or ws x 0) (le : get_or ws x 0 ≤ get_or w0 x 0) where
+  pub gained-step : GainsFreed H0 H marks w0 ws → ((t : ℕ) → after t ↔ (H t ⊎ ((t ≡ x) × (get_or ws x 0 ≡ 1) × (is_marked marks x ≡ true)))) → GainsFreed H0 after marks w0 (set ws x (get_or ws x 0 - 1))
   gained-step gained step t = elim (cases_eq t x) [
     | inl same ↦
         let written = get_or-set_same ws x (get_or ws x 0 - 1) 0 inside in
-        subst (λ (m : ℕ). after m ↔ (H0 m ⊎ ((get_or w0 m 0 ≢ 0) × (get_or (set ws x (get_or ws x 0 - 1)) m 0 ≡ 0)))) (sym same) (
+        subst (λ (m : ℕ). after m ↔ (H0 m ⊎ ((get_or w0 m 0 ≢ 0) × (get_or (set ws x (get_or ws x 0 - 1)) m 0 ≡ 0) × (is_marked marks m ≡ true)))) (sym same) (
           (λ h. ⊎_elim
               (λ b. ⊎_elim (λ c. inl c) (λ f. let zeros = f.1 in absurd (omega (arith, zeros, some))) ((gained x).0 b))
-              (λ f. let one = f.1 in inr ((λ zeros. omega (arith, zeros, some, le)), omega (arith, written, one)))
+              (λ f. let one = f.1 in inr ((λ zeros. omega (arith, zeros, some, le)), omega (arith, written, one), f.2))
               ((step x).0 h)),
-          (λ h. (step x).1 (⊎_elim (λ b. inl ((gained x).1 (inl b))) (λ f. let zeros = f.1 in inr (refl, omega (arith, zeros, written, some))) h)),
+          (λ h. (step x).1 (⊎_elim (λ b. inl ((gained x).1 (inl b))) (λ f. let zeros = f.1 in inr (refl, omega (arith, zeros, written, some), f.2)) h)),
         )
     | inr other ↦
         let kept = get_or-set_other ws x t (get_or ws x 0 - 1) 0 other in (
-          (λ h. ⊎_elim (λ b. ⊎_elim (λ c. inl c) (λ f. inr (f.0, kept ∙ f.1)) ((gained t).0 b)) (λ f. absurd (other f.0)) ((step t).0 h)),
-          (λ h. (step t).1 (inl ((gained t).1 (⊎_elim (λ c. inl c) (λ f. inr (f.0, sym kept ∙ f.1)) h)))),
+          (λ h. ⊎_elim (λ b. ⊎_elim (λ c. inl c) (λ f. inr (f.0, kept ∙ f.1, f.2)) ((gained t).0 b)) (λ f. absurd (other f.0)) ((step t).0 h)),
+          (λ h. (step t).1 (inl ((gained t).1 (⊎_elim (λ c. inl c) (λ f. inr (f.0, sym kept ∙ f.1, f.2)) h)))),
         )
   ]
 

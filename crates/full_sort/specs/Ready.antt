@@ -1,6 +1,7 @@
 -- Ready nodes: a set, and one node that may be kept apart from it.
-use Rattle.std.specs.Prelude.{◌≡◌, ◌≢◌, ◌↔◌, ◌⊎◌, ◌==◌, ℕ, ◌*◌, ◌<◌, List, Option, Some, None, count_by, length, slice_index}
+use Rattle.std.specs.Prelude.{◌≡◌, ◌≢◌, ◌↔◌, ◌⊎◌, ◌==◌, ℕ, ◌*◌, ◌<◌, List, Bool, true, Option, Some, None, count_by, length, slice_index}
 use Rattle.full_sort.specs.Bits.{bit_of}
+use Rattle.full_sort.specs.Waiting.{is_marked}
 
 -- the node is in the set, or kept apart
 abbrev pub IsHeld : List ℕ → Option ℕ → ℕ → Type 0
@@ -21,6 +22,6 @@ TakesHeld old kept new (Some n) = (length new ≡ length old) × IsHeld old kept
 abbrev pub times_in : List ℕ → ℕ → ℕ
 times_in xs t = count_by (λ x. x == t) xs
 
--- Those that were held before are held, and the nodes whose count fell to 0.
-abbrev pub GainsFreed : (ℕ → Type 0) → (ℕ → Type 0) → List ℕ → List ℕ → Type 0
-GainsFreed before after old new = (t : ℕ) → after t ↔ (before t ⊎ ((slice_index old t ≢ 0) × (slice_index new t ≡ 0)))
+-- Those that were held before are held, and the marked nodes whose count fell to 0.
+abbrev pub GainsFreed : (ℕ → Type 0) → (ℕ → Type 0) → List Bool → List ℕ → List ℕ → Type 0
+GainsFreed before after marks old new = (t : ℕ) → after t ↔ (before t ⊎ ((slice_index old t ≢ 0) × (slice_index new t ≡ 0) × (is_marked marks t ≡ true)))

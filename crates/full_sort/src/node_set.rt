@@ -1,6 +1,6 @@
 //! A set of nodes whose least is found at once, as bits in two levels.
 ghost use Rattle.std.specs.Prelude.{◌≡◌, ℕ, ◌*◌, ◌<◌, ◌≤◌, List, length, IfOk, None};
-ghost use Rattle.full_sort.specs.Bits.{ChangesBit, IsFirstBit, TakesLeast, bit_of};
+ghost use Rattle.full_sort.specs.Bits.{ChangesBit, IsFirstBit, bit_of};
 
 use crate::bits::{clear_both, least_of, set_both};
 use std::alloc::{AllocError, Global};
@@ -57,16 +57,5 @@ impl NodeSet {
         ensures { ChangesBit self.old self.new node 0 }
     {
         clear_both(&mut self.low, &mut self.high, node);
-    }
-
-    /// Takes the least node out of the set.
-    pub fn take_least(&mut self) -> Option<u32>
-        ensures { TakesLeast self.old self.new result }
-    {
-        let least = least_of(&self.low, &self.high);
-        if let Some(node) = least {
-            clear_both(&mut self.low, &mut self.high, node);
-        }
-        least
     }
 }

@@ -18,12 +18,18 @@ use std::marker::Model;
 use std::sync::ledger::Ledger;
 
 /// Room for the orders of a graph of so many nodes. Contracts see their number, which no call changes.
-/// Between two calls no node waits for an edge, none is marked and the set is empty: so the time of a
+/// Between two calls each number is 0, no node waits for an edge, none is marked and the set is empty: so the time of a
 /// call is that of its window.
 #[derive(Drop)]
 pub struct Scratch {
+    /// Numbers of components, or levels of a search.
+    numbers: Vec<u32>,
+    /// Counts of the edges from the nodes of a window, and one more for no node.
     waiting: Vec<u32>,
+    /// Marks of the nodes of a window, or of a search.
     marks: Vec<bool>,
+    /// Marks of all nodes.
+    all: Vec<bool>,
     ready: NodeSet,
     placed: Vec<u32>,
     queue: Vec<u32>,
@@ -37,10 +43,10 @@ impl Model for Scratch {
 
     ghost Value = { ℕ };
 
-    ghost view = { λ s. length s.waiting.items };
+    ghost view = { λ s. length s.numbers.items };
 
-    ghost invariant = { λ s. IsScratch s.waiting.items s.marks.items s.ready s.placed.items s.queue.items
-        s.counts.items };
+    ghost invariant = { λ s. IsScratch s.numbers.items s.waiting.items s.marks.items s.all.items s.ready s.placed.items
+        s.queue.items s.counts.items };
 }
 
 impl Scratch {
@@ -48,15 +54,19 @@ impl Scratch {
     pub fn new(alloc: Global, nodes: u32) -> Result<Scratch, AllocError>
         ensures { IfOk result (λ scratch. scratch ≡ nodes) }
     {
-        let waiting = vec![in alloc; 0u32; nodes as usize]?;
+        let numbers = vec![in alloc; 0u32; nodes as usize]?;
+        let waiting = vec![in alloc; 0u32; nodes as usize + 1]?;
         let marks = vec![in alloc; false; nodes as usize]?;
+        let all = vec![in alloc; true; nodes as usize]?;
         let ready = NodeSet::new(alloc, nodes)?;
         let placed = vec![in alloc; 0u32; nodes as usize]?;
         let queue = vec![in alloc; 0u32; nodes as usize]?;
         let counts = vec![in alloc; 0u32; nodes as usize + 1]?;
         Ok(Scratch {
+            numbers,
             waiting,
             marks,
+            all,
             ready,
             placed,
             queue,
@@ -90,6 +100,7 @@ pub fn least_order_into<L: Ledger>(
     let _edges = graph.edges();
     order_all_into(
         graph,
+        &scratch.all,
         &mut scratch.counts,
         &mut scratch.ready,
         &mut scratch.placed,
@@ -167,12 +178,12 @@ pub fn least_on_cycle<L: Ledger>(
     number_components(
         graph,
         &scratch.placed,
-        &mut scratch.waiting,
+        &mut scratch.numbers,
         &mut scratch.queue,
         steps,
     );
-    let least = least_reaching_itself(graph, &scratch.waiting, steps);
-    scratch.waiting.fill(0);
+    let least = least_reaching_itself(graph, &scratch.numbers, steps);
+    scratch.numbers.fill(0);
     least
 }
 
@@ -198,7 +209,7 @@ pub fn shortest_cycle_into<P: Pairs>(
     shortest_cycle(
         pairs,
         start,
-        &mut scratch.waiting,
+        &mut scratch.numbers,
         &mut scratch.placed,
         cycle,
     );

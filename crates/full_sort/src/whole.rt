@@ -1,9 +1,10 @@
 //! The least order of all nodes of a graph.
-ghost use Rattle.std.specs.Prelude.{◌≡◌, ◌↔◌, ℕ, ◌+◌, ◌*◌, ◌<◌, ◌≤◌, length, slice_index, None};
+ghost use Rattle.std.specs.Prelude.{◌≡◌, ◌↔◌, ℕ, ◌+◌, ◌*◌, ◌<◌, ◌≤◌, length, slice_index, None, true};
 ghost use Rattle.std.specs.Bool.{OnTrue, OnFalse};
 ghost use Rattle.orders.specs.Orders.{IsLeastOrder, HasNoOrder, nodes_below};
 ghost use Rattle.digraph.specs.Digraph.{HasEdge, in_degree};
 ghost use Rattle.full_sort.specs.Bits.{bit_of, IsFirstBit};
+ghost use Rattle.full_sort.specs.Waiting.{is_marked};
 
 use crate::node_set::NodeSet;
 use crate::ready::take_ready;
@@ -27,14 +28,17 @@ fn find_ready(graph: &Graph, counts: &[u32], ready: &mut NodeSet)
     }
 }
 
-/// Places the least node that waits for none, until all are placed or each waits. The result is how many are placed.
+/// Places the least node that waits for none, until all are placed or each waits. The result is how many are placed. In `all` each node is marked.
 fn place_all<L: Ledger>(
     graph: &Graph,
+    all: &[bool],
     counts: &mut [u32],
     ready: &mut NodeSet,
     placed: &mut [u32],
     steps: &mut Steps<L>,
 ) -> usize
+    requires all { length all.now ≡ graph.now.nodes }
+    requires marked { (t : ℕ) → t < graph.now.nodes → is_marked all.now t ≡ true }
     requires counts { length counts.old ≡ graph.now.nodes + 1 }
     requires room { graph.now.nodes ≤ 64 * length ready.old }
     requires placed { length placed.old ≡ graph.now.nodes }
@@ -62,7 +66,7 @@ fn place_all<L: Ledger>(
             None => return k,
             Some(node) => {
                 placed[k] = node;
-                kept = release_all(graph, node, counts, ready, steps);
+                kept = release_all(graph, node, counts, all, ready, steps);
             }
         }
     }
@@ -70,14 +74,18 @@ fn place_all<L: Ledger>(
 }
 
 /// Puts the least order of all nodes into `order`, and says whether there is one. The set is empty before and after; `counts` and `placed` may hold anything.
+/// In `all` each node is marked.
 pub fn order_all_into<L: Ledger>(
     graph: &Graph,
+    all: &[bool],
     counts: &mut [u32],
     ready: &mut NodeSet,
     placed: &mut [u32],
     order: &mut [u32],
     steps: &mut Steps<L>,
 ) -> bool
+    requires all { length all.now ≡ graph.now.nodes }
+    requires marked { (t : ℕ) → t < graph.now.nodes → is_marked all.now t ≡ true }
     requires counts { length counts.old ≡ graph.now.nodes + 1 }
     requires room { graph.now.nodes ≤ 64 * length ready.old }
     requires empty { IsFirstBit ready.old None }
@@ -97,7 +105,7 @@ pub fn order_all_into<L: Ledger>(
     let nodes = graph.nodes() as usize;
     counts[..nodes].copy_from_slice(graph.in_degrees());
     find_ready(graph, counts, ready);
-    let count = place_all(graph, counts, ready, placed, steps);
+    let count = place_all(graph, all, counts, ready, placed, steps);
     if count < placed.len() {
         return false;
     }

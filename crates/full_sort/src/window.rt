@@ -8,7 +8,9 @@ ghost use Rattle.full_sort.specs.Scratch.{IsClean};
 ghost use Rattle.full_sort.specs.Waiting.{is_marked, marked_of, IsWaiting, HasFree};
 
 use crate::node_set::NodeSet;
-use crate::waiting::{lower, note_free, raise, release};
+use crate::ready::take_ready;
+use crate::releasing::release_all;
+use crate::waiting::{lower, note_free, raise};
 use digraph::{Graph, Steps};
 use std::sync::ledger::Ledger;
 
@@ -23,7 +25,7 @@ fn count_window<L: Ledger>(
     requires window { All (λ n. n < graph.now.nodes) window.now }
     requires once { AllPairs (λ a b. a ≢ b) window.now }
     requires few { length graph.now.edges < 2 ^ 32 }
-    requires waiting { length waiting.old ≡ graph.now.nodes }
+    requires waiting { length waiting.old ≡ graph.now.nodes + 1 }
     requires marks { length marks.old ≡ graph.now.nodes }
     requires no_counts { (t : ℕ) → slice_index waiting.old t ≡ 0 }
     requires no_marks { (t : ℕ) → is_marked marks.old t ≡ false }
@@ -64,7 +66,7 @@ fn place_window<L: Ledger>(
 ) -> bool
     requires window { All (λ n. n < graph.now.nodes) window.now }
     requires once { AllPairs (λ a b. a ≢ b) window.now }
-    requires waiting { length waiting.old ≡ graph.now.nodes }
+    requires waiting { length waiting.old ≡ graph.now.nodes + 1 }
     requires marks { length marks.old ≡ graph.now.nodes }
     requires room { graph.now.nodes ≤ 64 * length ready.old }
     requires placed { length placed.old ≡ length window.now }
@@ -80,13 +82,14 @@ fn place_window<L: Ledger>(
     ensures ticks { steps.new + edges_out graph.now.edges (marked_of marks.new window.now)
         ≡ steps.old + edges_out graph.now.edges window.now }
 {
+    let mut kept = None;
     for k in 0..window.len() {
-        match ready.take_least() {
+        match take_ready(ready, kept) {
             None => return false,
             Some(node) => {
                 placed[k] = node;
                 marks[node as usize] = false;
-                release(graph, node, waiting, marks, ready, steps);
+                kept = release_all(graph, node, waiting, marks, ready, steps);
             }
         }
     }
@@ -103,7 +106,7 @@ fn clean_up<L: Ledger>(
 )
     requires window { All (λ n. n < graph.now.nodes) window.now }
     requires once { AllPairs (λ a b. a ≢ b) window.now }
-    requires waiting { length waiting.old ≡ graph.now.nodes }
+    requires waiting { length waiting.old ≡ graph.now.nodes + 1 }
     requires marks { length marks.old ≡ graph.now.nodes }
     requires counted { IsWaiting graph.now.edges graph.now.nodes window.now waiting.old marks.old }
     ensures no_counts { (t : ℕ) → slice_index waiting.new t ≡ 0 }
@@ -117,10 +120,12 @@ fn clean_up<L: Ledger>(
             lower(graph, *node, waiting, steps);
         }
     }
+    waiting[graph.nodes() as usize] = 0;
 }
 
 /// Puts the least order of the window into the first places of `placed`, and says whether there is one.
-/// The arrays `waiting` and `marks` and the set are clean before and after; `placed` may hold anything.
+/// The arrays `waiting` and `marks` and the set are clean before and after; `placed` may hold anything. The place in `waiting` behind those of the nodes
+/// is that of no node.
 pub fn order_into<L: Ledger>(
     graph: &Graph,
     window: &[u32],
@@ -133,7 +138,7 @@ pub fn order_into<L: Ledger>(
     requires window { All (λ n. n < graph.now.nodes) window.now }
     requires once { AllPairs (λ a b. a ≢ b) window.now }
     requires few { length graph.now.edges < 2 ^ 32 }
-    requires waiting { length waiting.old ≡ graph.now.nodes }
+    requires waiting { length waiting.old ≡ graph.now.nodes + 1 }
     requires marks { length marks.old ≡ graph.now.nodes }
     requires room { graph.now.nodes ≤ 64 * length ready.old }
     requires clean { IsClean waiting.old marks.old ready.old }
@@ -148,9 +153,10 @@ pub fn order_into<L: Ledger>(
     count_window(graph, window, waiting, marks, steps);
     find_free(window, waiting, marks, ready);
     let list = &mut placed[..window.len()];
-    let found = place_window(graph, window, waiting, marks, ready, list, steps);
-    if !found {
-        clean_up(graph, window, waiting, marks, steps);
+    if place_window(graph, window, waiting, marks, ready, list, steps) {
+        waiting[graph.nodes() as usize] = 0;
+        return true;
     }
-    found
+    clean_up(graph, window, waiting, marks, steps);
+    false
 }

@@ -124,6 +124,22 @@ module _ (s : StaticGraph) (run : List ℕ) (count : ℕ) (starts : List ℕ) (g
       let both = length-append (edges_up_to s run rank) front.0 in
       omega (arith, at, whole, both)
 
+  -- the static edges stand in front
+  pub static_front : take (length s.graph.edges) g.edges ≡ s.graph.edges
+  static_front =
+      ap (take (length s.graph.edges)) h.edges
+      ∙ take_at s.graph.edges (flat_map (edges_of_load s.test run) (take count (load_nodes s.test))) (length s.graph.edges) refl
+
+  -- and they alone are the edges of no load
+  pub holds_none : (now : Digraph) → now ≡ record g { edges = s.graph.edges } → HoldsLoads s run 0 starts now
+  holds_none now e = subst (HoldsLoads s run 0 starts) (sym e) (record {
+    few = omega arith;
+    nodes = h.nodes;
+    room = h.room;
+    edges = sym (append-nil s.graph.edges);
+    at = λ rank lt. absurd (omega (arith, lt));
+  })
+
   -- the edges of fewer loads, as far as another run has the same values
   module _ (other : List ℕ) (loads : ℕ) (same : (rank : ℕ) → rank < loads → get_or run rank 0 ≡ get_or other rank 0) where
     starts_same : loads ≤ count → (rank : ℕ) → rank < loads → get_or starts rank 0 ≡ length (edges_up_to s other rank)

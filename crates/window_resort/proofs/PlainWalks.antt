@@ -1,9 +1,8 @@
 -- The windows of a base's order, and what a run leaves as the base.
-use Rattle.std.proofs.Common.{◌≡◌, ◌≢◌, ◌⊎◌, inl, inr, ℕ, ◌+◌, ◌<◌, ◌≤◌, All, AllPairs, List, length, get_or, Contains, arith, refl, sym, ap, subst, ◌∙◌}
-use Rattle.std.specs.Prelude.{◌-◌, Option, Some, None, IfSome, Result, Ok, Err, IfOk, drop}
+use Rattle.std.proofs.Common.{ℕ, ◌+◌, ◌<◌, ◌≤◌, All, List, length, get_or, Contains, sym, subst}
+use Rattle.std.specs.Prelude.{◌-◌, Option, IfSome, Result, Ok, Err, IfOk, drop}
 use Rattle.std.proofs.lemmas.List.{get_or_default}
 use Rattle.std.proofs.lemmas.List.Elements.{All-drop, All-take}
-use Rattle.orders.specs.Orders.{IsOrder}
 use Rattle.full_sort.proofs.Pigeons.{length-once-le}
 use Rattle.test_lang.specs.declared.op.MemModel.{MemModel}
 use Rattle.test_lang.specs.Edges.{Edge, IsRunOrder}

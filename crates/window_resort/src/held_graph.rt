@@ -55,18 +55,40 @@ impl HeldGraph {
         })
     }
 
+    /// Takes the edges of the loads from this one on away, one by one; or, where they are more than there are nodes, those of all loads at once, in time
+    /// of the nodes.
+    fn cut_to(&mut self, fixed: &Static, loads: u32)
+        requires sound { IsStaticGraph fixed.now }
+        requires room { HasHeldRoom fixed.now self.old.run.items self.old.starts.items }
+        requires holds { HoldsLoads fixed.now self.old.run.items self.old.loads self.old.starts.items self.old.graph }
+        requires fewer { loads < self.old.loads }
+        ensures few { self.new.loads ≤ loads }
+        ensures room { HasHeldRoom fixed.now self.new.run.items self.new.starts.items }
+        ensures run { self.new.run.items ≡ self.old.run.items }
+        ensures holds { HoldsLoads fixed.now self.old.run.items self.new.loads self.new.starts.items self.new.graph }
+    {
+        let start = self.starts[loads as usize];
+        if self.graph.edges() - start > self.graph.nodes() {
+            self.graph.truncate_to(fixed.graph());
+            self.loads = 0;
+        } else {
+            self.graph.truncate(start);
+            self.loads = loads;
+        }
+    }
+
     /// Keeps the edges of the first loads, as far as they have the same values in the run.
     fn keep_common(&mut self, fixed: &Static, run: &[u32])
         requires room { HasHeldRoom fixed.now self.old.run.items self.old.starts.items }
         requires holds { HoldsLoads fixed.now self.old.run.items self.old.loads self.old.starts.items self.old.graph }
         requires run { length run.now ≡ load_count fixed.now.test }
+        requires sound { IsStaticGraph fixed.now }
         ensures room { HasHeldRoom fixed.now self.new.run.items self.new.starts.items }
         ensures holds { HoldsLoads fixed.now run.now self.new.loads self.new.starts.items self.new.graph }
     {
         let loads = common_loads(&self.run, run, self.loads);
         if loads < self.loads {
-            self.graph.truncate(self.starts[loads as usize]);
-            self.loads = loads;
+            self.cut_to(fixed, loads);
         }
     }
 

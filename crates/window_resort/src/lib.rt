@@ -1,4 +1,4 @@
-//! Windowed re-sorting. Runs that stand beside each other have nearly the same constraint graph: each is sorted from the order of the one before, of which only the window that edges point backward in is sorted again.
+//! Windowed re-sorting. Runs that stand beside each other have nearly the same constraint graph: each is sorted from the last order that was found in the chunk, by a few of the run's edges: only the window that these point backward in is sorted again.
 //!
 //! What is proved:
 //! `Checker::next`: a run gets the verdict of the walk's definition, and leaves the base of it, over all edges of the run, though few are kept (`taken`); it has a cycle exactly where it has no order (`none`); with a base it reads at most three

@@ -43,6 +43,9 @@ release-kept-requires-clause-room g c = λ one.
     let nodes = c.requires.room in
     omega (arith, inside, room, nodes)
 
+pub release-kept-requires-clause-marks : goal.release-kept-requires-clause-marks
+release-kept-requires-clause-marks g c = λ one. let inside = c.target.ensures.inside in let marks = c.requires.marks in omega (arith, inside, marks)
+
 pub release-kept-requires-clause-kept : goal.release-kept-requires-clause-kept
 release-kept-requires-clause-kept g c = c.loop.invariant.kept
 
@@ -69,7 +72,7 @@ loop-preserved g c =
       spare = get_or-set_other ws x c.args.graph.now.nodes (get_or ws x 0 - 1) 0 (λ same. omega (arith, same, inside)) ∙ c.loop.invariant.spare;
       counts_room = length-set ws x (get_or ws x 0 - 1) ∙ room;
       gained =
-          gained-step (IsHeld c.args.ready.now None) (IsHeld c.loop.ready c.loop.kept) (IsHeld c.release-kept.new.ready c.release-kept.result) c.args.counts.now ws x (omega (arith, room, long, inside))
+          gained-step (IsHeld c.args.ready.now None) (IsHeld c.loop.ready c.loop.kept) (IsHeld c.release-kept.new.ready c.release-kept.result) c.args.marks.now c.args.counts.now ws x (omega (arith, room, long, inside))
           some fewer c.loop.invariant.gained c.release-kept.ensures.gained;
       kept = c.release-kept.ensures.kept;
       room = c.release-kept.ensures.room ∙ c.loop.invariant.room;
@@ -97,6 +100,9 @@ release-requires-clause-room g c = λ one.
     let room = c.loop.invariant.room in
     let nodes = c.requires.room in
     omega (arith, inside, room, nodes)
+
+pub release-requires-clause-marks : goal.release-requires-clause-marks
+release-requires-clause-marks g c = λ one. let inside = c.target-2.ensures.inside in let marks = c.requires.marks in omega (arith, inside, marks)
 
 pub release-requires-clause-kept : goal.release-requires-clause-kept
 release-requires-clause-kept g c = c.loop.invariant.kept
@@ -127,7 +133,7 @@ returns-clause-gained g c =
     let fewer = last-fewer c.args.graph.now.edges c.args.node c.unwrap-edge-2.result c.loop.next c.unwrap-edge-2.ensures c.loop.invariant.walk
     c.loop.counts c.args.counts.now c.args.graph.now.nodes c.target-2.result c.target-2.ensures.value c.target-2.ensures.inside (let room = c.loop.invariant.counts_room in let long = c.requires.counts in omega (arith, room, long)) c.loop.invariant.counted c.requires.enough in
     rw c.release.ensures.less
-    (gained-step (IsHeld c.args.ready.now None) (IsHeld c.loop.ready c.loop.kept) (IsHeld c.release.new.ready c.release.result) c.args.counts.now c.loop.counts c.target-2.result (omega (arith, room, long, inside))
+    (gained-step (IsHeld c.args.ready.now None) (IsHeld c.loop.ready c.loop.kept) (IsHeld c.release.new.ready c.release.result) c.args.marks.now c.args.counts.now c.loop.counts c.target-2.result (omega (arith, room, long, inside))
     some fewer c.loop.invariant.gained c.release.ensures.gained)
 
 pub returns-clause-room : goal.returns-clause-room

@@ -12,7 +12,7 @@ invariant-loop g l = record {
   counted : (t : ℕ) → t < l.graph.nodes → get_or l.counts t 0 + count_between (drop (walk_start l.next) l.graph.edges) l.node t ≡ get_or l.fn.counts t 0;
   spare : get_or l.counts l.graph.nodes 0 ≡ get_or l.fn.counts l.graph.nodes 0;
   counts_room : length l.counts ≡ length l.fn.counts;
-  gained : GainsFreed (IsHeld l.fn.ready None) (IsHeld l.ready l.kept) l.fn.counts l.counts;
+  gained : GainsFreed (IsHeld l.fn.ready None) (IsHeld l.ready l.kept) l.marks l.fn.counts l.counts;
   kept : HasRoom l.ready l.kept;
   room : length l.ready ≡ length l.fn.ready;
   ticked : l.steps ≡ l.fn.steps + out_degree (drop (walk_start l.next) l.graph.edges) l.node + given l.next;

@@ -93,6 +93,26 @@ release-kept-requires-clause-room g c = λ one.
       | inr other ↦ omega (arith, inside, other, room, nodes)
     ]
 
+pub release-kept-requires-clause-marks : goal.release-kept-requires-clause-marks
+release-kept-requires-clause-marks g c = λ one.
+    let n : ℕ = c.args.graph.now.nodes in
+    let items : List ℕ = c.near_targets-target-items.result.now in
+    let i : ℕ = c.loop-target.target-index in
+    let x : ℕ = get_or items i 0 in
+    let tell = c.near_targets-target-items.ensures in
+    let long = tell.long in
+    let low : i < 3 = omega (arith, long) in
+    let inside = near-inside (targets_from c.args.graph.now.edges c.args.node) items n tell.long tell.at (targets-inside c.args.graph.now.edges c.args.node n c.nodes-nodes.ensures.sound.ends) i low in
+    let marks = c.requires.marks in
+    elim (cases_eq x n) [
+      | inl same ↦
+          let spare = c.loop-target.invariant.spare in
+          let some = c.requires.spare in
+          let at : get_or c.loop-target.counts x 0 ≡ get_or c.loop-target.counts n 0 = ap (λ (m : ℕ). get_or c.loop-target.counts m 0) same in
+          absurd (omega (arith, spare, some, at, low, one))
+      | inr other ↦ omega (arith, inside, other, marks)
+    ]
+
 pub release-kept-requires-clause-kept : goal.release-kept-requires-clause-kept
 release-kept-requires-clause-kept g c = c.loop-target.invariant.kept
 
@@ -121,7 +141,7 @@ loop-target-preserved g c =
       fewer = fewer-set c.args.counts.now c.loop-target.counts x within c.loop-target.invariant.fewer;
       counts_room = length-set c.loop-target.counts x (get_or c.loop-target.counts x 0 - 1) ∙ room;
       gained =
-          gained-step (IsHeld c.args.ready.now c.args.kept) (IsHeld c.loop-target.ready c.loop-target.kept) (IsHeld c.release-kept.new.ready c.release-kept.result) c.args.counts.now c.loop-target.counts x within
+          gained-step (IsHeld c.args.ready.now c.args.kept) (IsHeld c.loop-target.ready c.loop-target.kept) (IsHeld c.release-kept.new.ready c.release-kept.result) c.args.marks.now c.args.counts.now c.loop-target.counts x within
           some (c.loop-target.invariant.fewer x) c.loop-target.invariant.gained c.release-kept.ensures.gained;
       kept = c.release-kept.ensures.kept;
       room = c.release-kept.ensures.room ∙ c.loop-target.invariant.room;

@@ -8,7 +8,7 @@ invariant-loop-target g l = record {
   spare : get_or l.fn.counts l.graph.nodes 0 ≤ get_or l.counts l.graph.nodes 0 + l.target-index;
   fewer : (t : ℕ) → get_or l.counts t 0 ≤ get_or l.fn.counts t 0;
   counts_room : length l.counts ≡ length l.fn.counts;
-  gained : GainsFreed (IsHeld l.fn.ready l.fn.kept) (IsHeld l.ready l.kept) l.fn.counts l.counts;
+  gained : GainsFreed (IsHeld l.fn.ready l.fn.kept) (IsHeld l.ready l.kept) l.marks l.fn.counts l.counts;
   kept : HasRoom l.ready l.kept;
   room : length l.ready ≡ length l.fn.ready;
 }

@@ -9,12 +9,12 @@ use Rattle.orders.proofs.NextNodes.{next-least, stuck-none}
 use Rattle.digraph.specs.Digraph.{HasEdge, out_degree}
 use Rattle.full_sort.specs.Bits.{bit_of}
 use Rattle.full_sort.specs.Ready.{IsHeld}
-use Rattle.full_sort.specs.Waiting.{count_between, without_marks}
+use Rattle.full_sort.specs.Waiting.{count_between, is_marked, without_marks}
 use Rattle.full_sort.proofs.Edges.{degrees-all}
 use Rattle.full_sort.proofs.Marked.{marked-none, sum-marked-less}
 use Rattle.full_sort.proofs.State.{state-next, state-stuck, state-whole, state-enough, state-more}
 use Rattle.full_sort.proofs.Gained.{falls}
-use Rattle.full_sort.proofs.Holding.{front-at, front-gained, front-less, front-long, held-empty, held-taken, holds-begin, holds-gained, least-held, none-held}
+use Rattle.full_sort.proofs.Holding.{front-at, front-gained-all, front-less, front-long, held-empty, held-taken, holds-begin, holds-gained, least-held, none-held}
 use Rattle.full_sort.proofs.Placing.{next-more}
 use Rattle.full_sort.proofs.Without.{length-without, without-push, whole-marked, whole-begin, free-begin, settled-begin, settled-taken, settled-falls}
 use Rattle.full_sort.proofs.whole.place_all.Goals as goal
@@ -130,7 +130,7 @@ loop-k-preserved g c =
       inside = rw longer (All-push (λ (n : ℕ). n < nodes) p x c.loop-k.invariant.inside inside);
       free = rw (longer, cleared) (holds-gained c.take_ready.new.ready c.release_all-kept.new.ready c.release_all-kept.result waiting after (set marks x false)
           (held-taken c.loop-k.ready c.loop-k.kept waiting marks window c.loop-k.invariant.free c.loop-k.invariant.state.waits.only c.take_ready.new.ready x below c.in-Some.ensures) settled fall
-          (front-gained nodes c.loop-k.counts c.release_all-kept.new.counts long long_after (IsHeld c.release_all-kept.new.ready c.release_all-kept.result) (λ t. bit_of c.take_ready.new.ready t ≡ 1) c.release_all-kept.ensures.gained));
+          (front-gained-all nodes c.loop-k.counts c.release_all-kept.new.counts long long_after (IsHeld c.release_all-kept.new.ready c.release_all-kept.result) (λ t. bit_of c.take_ready.new.ready t ≡ 1) (λ t. is_marked c.args.all.now t ≡ true) c.requires.marked c.release_all-kept.ensures.gained));
       settled = rw (longer, cleared) (settled-falls waiting after (set marks x false) settled fall);
       counts_room = long_after;
       kept = c.release_all-kept.ensures.kept;

@@ -1,13 +1,13 @@
 -- Each turn places the next node, and where none is free the search is stuck.
-use Rattle.std.proofs.Common.{◌≡◌, ◌∙◌, ℕ, ◌+◌, ◌<◌, List, [], ◌∷◌, ◌++◌, length, set, take, ap, subst, arith, refl, Some, None, Contains}
+use Rattle.std.proofs.Common.{◌≡◌, ◌∙◌, ℕ, ◌+◌, ◌<◌, List, Bool, [], ◌∷◌, ◌++◌, length, set, take, ap, subst, arith, refl, false, Some, None, Contains}
 use Rattle.std.specs.Prelude.{sum_by}
-use Rattle.std.proofs.lemmas.List.{length-take-le, take_more_set, take_all}
+use Rattle.std.proofs.lemmas.List.{length-set, length-take-le, take_more_set, take_all}
 use Rattle.std.proofs.lemmas.List.Elements.{All-contains, Contains-get_or}
 use Rattle.orders.proofs.NextNodes.{next-least, stuck-none}
 use Rattle.digraph.specs.Digraph.{HasEdge, out_degree}
 use Rattle.full_sort.proofs.Marked.{marked-all, sum-marked-less}
 use Rattle.full_sort.proofs.State.{state-begin, state-next, state-stuck, state-whole, state-enough, state-more}
-use Rattle.full_sort.proofs.Free.{least-from-set, set-empty, free-taken}
+use Rattle.full_sort.proofs.Holding.{held-empty, held-taken, holds-begin, holds-marked, least-held, mark-within, none-held}
 use Rattle.full_sort.proofs.Placing.{next-more}
 use Rattle.full_sort.proofs.window.place_window.Goals as goal
 
@@ -17,7 +17,8 @@ loop-k-init g c =
     record {
       state = state;
       next = λ i lt. absurd (omega (arith, lt));
-      free = c.requires.free;
+      free = holds-begin c.args.ready.now c.args.waiting.now c.args.marks.now c.requires.free;
+      kept = tt;
       room = refl;
       ticked = ap (λ (xs : List ℕ). c.args.steps.now + sum_by (out_degree c.args.graph.now.edges) xs) (marked-all c.args.marks.now c.args.window.now (λ z h. state.marked z h (λ none. let at = none.1 in omega (arith, at))));
     }
@@ -30,19 +31,16 @@ returns-in-None-clause-none g c =
     (state-stuck c.args.graph.now.edges c.args.window.now p c.args.graph.now.nodes c.loop-k.waiting c.loop-k.marks c.loop-k.invariant.state
     (λ z h. All-contains (λ (n : ℕ). n < c.args.graph.now.nodes) c.args.window.now z c.requires.window h)
     (omega (arith, taken))
-    (least-from-set c.loop-k.ready c.loop-k.waiting c.loop-k.marks c.args.window.now c.loop-k.invariant.free c.loop-k.invariant.state.waits.only None c.in-None.ensures.1))
+    (least-held c.loop-k.ready c.loop-k.kept c.loop-k.waiting c.loop-k.marks c.args.window.now c.loop-k.invariant.free c.loop-k.invariant.state.waits.only c.take_ready.new.ready None c.in-None.ensures))
 
-pub release-requires-clause-enough : goal.release-requires-clause-enough
-release-requires-clause-enough g c =
+pub returns-in-None-clause-empty : goal.returns-in-None-clause-empty
+returns-in-None-clause-empty g c = none-held c.loop-k.ready c.loop-k.kept c.take_ready.new.ready c.in-None.ensures
+
+pub release_all-kept-requires-clause-enough : goal.release_all-kept-requires-clause-enough
+release_all-kept-requires-clause-enough g c =
     state-enough c.args.graph.now.edges c.args.window.now (take c.loop-k.k c.loop-k.placed) c.args.graph.now.nodes c.loop-k.waiting c.loop-k.marks c.loop-k.invariant.state
     (λ z h. All-contains (λ (n : ℕ). n < c.args.graph.now.nodes) c.args.window.now z c.requires.window h)
-    c.in-Some.node (least-from-set c.loop-k.ready c.loop-k.waiting c.loop-k.marks c.args.window.now c.loop-k.invariant.free c.loop-k.invariant.state.waits.only (Some c.in-Some.node) c.in-Some.ensures.1)
-
-pub release-requires-clause-free : goal.release-requires-clause-free
-release-requires-clause-free g c =
-    let least = least-from-set c.loop-k.ready c.loop-k.waiting c.loop-k.marks c.args.window.now c.loop-k.invariant.free c.loop-k.invariant.state.waits.only (Some c.in-Some.node) c.in-Some.ensures.1 in
-    let inside = All-contains (λ (n : ℕ). n < c.args.graph.now.nodes) c.args.window.now c.in-Some.node c.requires.window least.0 in
-    free-taken c.loop-k.ready c.loop-k.waiting c.loop-k.marks c.loop-k.invariant.free c.take_least.new.self c.in-Some.node (omega (arith, inside)) c.in-Some.ensures.0
+    c.in-Some.node (least-held c.loop-k.ready c.loop-k.kept c.loop-k.waiting c.loop-k.marks c.args.window.now c.loop-k.invariant.free c.loop-k.invariant.state.waits.only c.take_ready.new.ready (Some c.in-Some.node) c.in-Some.ensures)
 
 pub loop-k-preserved : goal.loop-k-preserved
 loop-k-preserved g c =
@@ -52,20 +50,27 @@ loop-k-preserved g c =
     let k : ℕ = c.loop-k.k in
     let p : List ℕ = take k c.loop-k.placed in
     let x : ℕ = c.in-Some.node in
+    let after : List Bool = set c.loop-k.marks x false in
     let room : k < length c.loop-k.placed = omega arith in
     let within : (z : ℕ) → Contains window z → z < nodes = (λ z h. All-contains (λ (n : ℕ). n < nodes) window z c.requires.window h) in
-    let least = least-from-set c.loop-k.ready c.loop-k.waiting c.loop-k.marks window c.loop-k.invariant.free c.loop-k.invariant.state.waits.only (Some x) c.in-Some.ensures.1 in
+    let least = least-held c.loop-k.ready c.loop-k.kept c.loop-k.waiting c.loop-k.marks window c.loop-k.invariant.free c.loop-k.invariant.state.waits.only c.take_ready.new.ready (Some x) c.in-Some.ensures in
     let inside = within x least.0 in
+    let size : length after ≡ nodes = length-set c.loop-k.marks x false ∙ omega arith in
     let longer : take (k + 1) (set c.loop-k.placed k x) ≡ p ++ x ∷ [] = take_more_set c.loop-k.placed k x room in
     record {
-      state = rw longer (state-more es window p nodes c.loop-k.waiting c.loop-k.marks c.loop-k.invariant.state within x c.requires.once (omega arith) least c.release.new.waiting c.release.ensures.less);
+      state = rw longer (state-more es window p nodes c.loop-k.waiting c.loop-k.marks c.loop-k.invariant.state within x c.requires.once (omega arith) least c.release_all-kept.new.counts c.release_all-kept.ensures.less);
       next = next-more (HasEdge es) window c.loop-k.placed k x room c.loop-k.invariant.next (state-next es window p nodes c.loop-k.waiting c.loop-k.marks c.loop-k.invariant.state within x least);
-      free = c.release.ensures.free;
-      room = c.release.ensures.room ∙ c.in-Some.ensures.0.room ∙ c.loop-k.invariant.room;
+      free = holds-marked c.take_ready.new.ready c.release_all-kept.new.ready c.release_all-kept.result nodes c.loop-k.waiting c.release_all-kept.new.counts after
+          (held-taken c.loop-k.ready c.loop-k.kept c.loop-k.waiting c.loop-k.marks window c.loop-k.invariant.free c.loop-k.invariant.state.waits.only c.take_ready.new.ready x (omega (arith, inside)) c.in-Some.ensures)
+          (λ t mark. let lt = mark-within after t mark in omega (arith, lt, size))
+          (λ t lt. let less = c.release_all-kept.ensures.less t lt in omega (arith, less))
+          c.release_all-kept.ensures.gained;
+      kept = c.release_all-kept.ensures.kept;
+      room = c.release_all-kept.ensures.room ∙ c.in-Some.ensures.0 ∙ c.loop-k.invariant.room;
       ticked =
           let so_far = c.loop-k.invariant.ticked in
           let more = sum-marked-less (out_degree es) c.loop-k.marks window x c.requires.once least.0 least.1.1 (omega (arith, inside)) in
-          let step = c.release.ensures.ticks in
+          let step = c.release_all-kept.ensures.ticks in
           omega (arith, so_far, more, step);
     }
 
@@ -93,5 +98,5 @@ pub returns-clause-empty : goal.returns-clause-empty
 returns-clause-empty g c =
     let p : List ℕ = take c.loop-k.k c.loop-k.placed in
     let taken = length-take-le c.loop-k.k c.loop-k.placed (omega arith) in
-    set-empty c.loop-k.ready c.loop-k.waiting c.loop-k.marks c.args.window.now c.loop-k.invariant.free c.loop-k.invariant.state.waits.only
+    held-empty c.loop-k.ready c.loop-k.kept c.loop-k.waiting c.loop-k.marks c.args.window.now c.loop-k.invariant.free c.loop-k.invariant.state.waits.only
     (λ x h. c.loop-k.invariant.state.cleared x h (state-whole c.args.graph.now.edges c.args.window.now p c.args.graph.now.nodes c.loop-k.waiting c.loop-k.marks c.loop-k.invariant.state (omega (arith, taken)) x h))

@@ -1,4 +1,4 @@
-use Rattle.std.proofs.Common.{◌≡◌, ℕ, ◌+◌, ◌<◌, List, ◌∷◌, ◌++◌, [], length, take, get_or, Contains, ap, arith, sym, subst, ◌∙◌, length-append}
+use Rattle.std.proofs.Common.{ℕ, ◌<◌, List, ◌∷◌, [], length, take, get_or, Contains, ap, arith, sym, subst, ◌∙◌, length-append}
 use Rattle.orders.specs.Choices.{IsNext, IsReady}
 use Rattle.test_lang.specs.Edges.{Edge}
 use Rattle.window_resort.proofs.Missing.{least_of_all, next_pushed, stuck_early}

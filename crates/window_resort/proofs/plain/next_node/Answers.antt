@@ -1,5 +1,5 @@
-use Rattle.std.proofs.Common.{◌≡◌, ℕ, ◌+◌, ap, arith, get_or, sym, subst, ◌∙◌}
-use Rattle.std.specs.Prelude.{Option, Some, None}
+use Rattle.std.proofs.Common.{ℕ, ◌+◌, ap, get_or, sym, subst, ◌∙◌}
+use Rattle.std.specs.Prelude.{Some}
 use Rattle.test_lang.specs.Edges.{Edge}
 use Rattle.window_resort.proofs.NextOfAll.{IsCandidate, LeastSoFar, next_found, none_found, so_far_first, so_far_kept, so_far_more}
 use Rattle.window_resort.proofs.plain.next_node.Goals as goal

@@ -1,4 +1,3 @@
-use Rattle.std.proofs.Common.{ℕ}
 use Rattle.test_lang.specs.Edges.{Edge}
 use Rattle.window_resort.proofs.NextOfAll.{LeastSoFar}
 use Rattle.window_resort.proofs.plain.next_node.Given as goal

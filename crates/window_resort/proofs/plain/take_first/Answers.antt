@@ -1,10 +1,9 @@
-use Rattle.std.proofs.Common.{◌≡◌, ◌≢◌, ℕ, ◌<◌, List, All, AllPairs, Vec, Global, ap, refl, sym, subst, ◌∙◌}
-use Rattle.std.specs.Prelude.{Option, None, Some, IfSome}
+use Rattle.std.proofs.Common.{◌≢◌, ℕ, ◌<◌, List, All, AllPairs, Vec, Global, ap, refl, sym, subst, ◌∙◌}
+use Rattle.std.specs.Prelude.{Option, Some, IfSome}
 use Rattle.orders.specs.Orders.{HasNoOrder, IsLeastOrder}
 use Rattle.orders.proofs.Below.{all-below, once-below}
 use Rattle.test_lang.specs.Edges.{Edge}
 use Rattle.test_lang.specs.Program.{op_count}
-use Rattle.window_resort.specs.Walks.{Base}
 use Rattle.window_resort.specs.Walks.TakesRun.{sorted, unsorted}
 use Rattle.window_resort.proofs.plain.take_first.Goals as goal
 

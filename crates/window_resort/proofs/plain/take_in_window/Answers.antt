@@ -1,5 +1,5 @@
-use Rattle.std.proofs.Common.{◌≡◌, ◌≢◌, ℕ, ◌+◌, ◌<◌, List, All, AllPairs, Vec, Global, ap, refl, sym, subst, ◌∙◌}
-use Rattle.std.specs.Prelude.{Option, None, Some, IfSome}
+use Rattle.std.proofs.Common.{◌≡◌, ◌≢◌, ℕ, ◌<◌, List, All, AllPairs, Vec, Global, ap, refl, sym, subst, ◌∙◌}
+use Rattle.std.specs.Prelude.{Option, Some, IfSome}
 use Rattle.orders.specs.Orders.{HasNoOrder, IsLeastOrder}
 use Rattle.test_lang.specs.Edges.{Edge}
 use Rattle.test_lang.specs.Program.{op_count}

@@ -1,11 +1,11 @@
-use Rattle.std.proofs.Common.{◌≡◌, ℕ, ◌<◌, List, All, length, ap, arith, refl, sym, subst, ◌∙◌}
+use Rattle.std.proofs.Common.{ℕ, ◌<◌, List, All, length, ap, arith, refl, sym, subst, ◌∙◌}
 use Rattle.std.specs.Prelude.{Option, None, Some, IfSome}
 use Rattle.test_lang.specs.Edges.{Edge, IsRunOrder}
 use Rattle.test_lang.specs.Program.{op_count}
 use Rattle.window_resort.specs.Walks.{Base}
 use Rattle.window_resort.specs.Walks.TakesRun.{kept}
 use Rattle.window_resort.specs.Windows.{IsWindow}
-use Rattle.window_resort.proofs.PlainWalks.{all_nodes_below, at_most_all, left_if_ok, window_ends, window_rises}
+use Rattle.window_resort.proofs.PlainWalks.{all_nodes_below, at_most_all, left_if_ok, window_rises}
 use Rattle.window_resort.proofs.RunWindows.{kept_order}
 use Rattle.window_resort.proofs.plain.take_slowly.Goals as goal
 

@@ -1,4 +1,3 @@
-use Rattle.std.proofs.Common.{ℕ}
 use Rattle.test_lang.specs.Edges.{Edge}
 use Rattle.window_resort.specs.Windows.{IsSpan}
 use Rattle.window_resort.proofs.Pairing.{Met}

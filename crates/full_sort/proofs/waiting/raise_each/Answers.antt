@@ -2,7 +2,7 @@
 use Rattle.std.proofs.Common.{arith}
 use Rattle.full_sort.proofs.Walk.{begin-walk, begin-between, begin-from}
 use Rattle.full_sort.proofs.WalkSteps.{turn-walk, turn-ticked, turn-raised, turn-room}
-use Rattle.full_sort.proofs.waiting.raise.Goals as goal
+use Rattle.full_sort.proofs.waiting.raise_each.Goals as goal
 
 pub loop-next-init : goal.loop-next-init
 loop-next-init g c = record {
