@@ -9,19 +9,18 @@ use Rattle.run_text.specs.declared.fault.RunFault.{RunFault}
 use Rattle.run_text.specs.declared.fault.RunFault.TheVariants.{BadRunLine, WrongCount, ValueRange, NoDone, AfterDone, Memory}
 use Rattle.run_text.specs.Runs.{reading, IsRefused}
 use Rattle.run_text.proofs.Runs.{reading_is_meaning, reading_is_text}
-use Rattle.mtrace_app.specs.declared.failure.Failure.{Failure}
+use Rattle.run_count.specs.Counts.{RefusesText, text_of}
 use Rattle.mtrace_app.specs.declared.refusal.InputFault.{InputFault}
 use Rattle.mtrace_app.specs.declared.refusal.Refusal.{Refusal}
 use Rattle.mtrace_app.specs.declared.refusal.Refusal.TheVariants.{Input}
-use Rattle.mtrace_app.specs.Counted.{FailsBehind}
 use Rattle.mtrace_app.specs.Failures.{IfRefused, failure_of}
-use Rattle.mtrace_app.specs.Inputs.{AreRecordedRuns, AreRefusedRuns, in_test, behind, behind_test, fault_behind_test, fault_in_test, text_behind}
+use Rattle.mtrace_app.specs.Inputs.{AreRecordedRuns, AreRefusedRuns, in_test, behind, behind_test, fault_behind_test, fault_in_test}
 
 -- the runs that were read behind a test were recorded
-pub recorded_by : (bytes : List ℕ) (p q : Program) (rest : List ℕ) (line : ℕ) (runs : List (List ℕ)) → q ≡ p → StartsWithTest bytes p rest → reading (text_behind q line rest) ≡ Ok runs → AreRecordedRuns bytes p runs
+pub recorded_by : (bytes : List ℕ) (p q : Program) (rest : List ℕ) (line : ℕ) (runs : List (List ℕ)) → q ≡ p → StartsWithTest bytes p rest → reading (text_of q line rest) ≡ Ok runs → AreRecordedRuns bytes p runs
 recorded_by bytes p q rest line runs same starts e =
-    let at_test = subst (λ (t : Program). reading (text_behind t line rest) ≡ Ok runs) same e in
-    record { rest = rest; test = starts; text = (reading_is_text (text_behind p line rest) runs refl).0 at_test }
+    let at_test = subst (λ (t : Program). reading (text_of t line rest) ≡ Ok runs) same e in
+    record { rest = rest; test = starts; text = (reading_is_text (text_of p line rest) runs refl).0 at_test }
 
 -- the refusal, if there is one, refuses the input
 abbrev pub RefusesBytes : List ℕ → Refusal → Type 0
@@ -61,8 +60,7 @@ module _ (bytes : List ℕ) (p : Program) (rest : List ℕ) (starts : StartsWith
   failed_behind Memory h = tt
 
   -- what wasn't read behind a test refuses the input
-  pub failed_by : (q : Program) (line : ℕ) (failure : Failure) → q ≡ p → line ≡ length (test_lines p) + 1 → FailsBehind (text_behind q line rest) failure → IfRefused (RefusesBytes bytes) failure
-  failed_by q line failure same number h =
-      let at_test = subst (λ (t : Program). FailsBehind (text_behind t line rest) failure) same h in
-      let here = subst (λ (n : ℕ). FailsBehind (text_behind p n rest) failure) number at_test in
-      subst (IfRefused (RefusesBytes bytes)) (sym here.1) (failed_behind here.0 here.2)
+  pub failed_by : (q : Program) (line : ℕ) (refusal : RunFault) → q ≡ p → line ≡ length (test_lines p) + 1 → RefusesText (text_of q line rest) refusal → IfRefused (RefusesBytes bytes) (failure_of (fault_behind_test refusal))
+  failed_by q line refusal same number h =
+      let at_test = subst (λ (t : Program). RefusesText (text_of t line rest) refusal) same h in
+      failed_behind refusal (subst (λ (n : ℕ). RefusesText (text_of p n rest) refusal) number at_test)

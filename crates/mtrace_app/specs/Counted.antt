@@ -1,24 +1,17 @@
 -- Runs that were counted.
-use Rattle.std.specs.Prelude.{◌≡◌, ◌⊎◌, ℕ, List, map, length, Err}
+use Rattle.std.specs.Prelude.{◌≡◌, ℕ, List, map, length}
 use Rattle.std.specs.List.{AllByRecursion}
 use Rattle.tally.specs.declared.outcome.Outcome.{Outcome}
 use Rattle.tally.specs.Tallies.{IsTally, total_of}
 use Rattle.test_lang.specs.Program.{Program}
 use Rattle.test_lang.specs.Signatures.{Means}
 use Rattle.test_lang.specs.Values.{load_count}
-use Rattle.run_text.specs.declared.fault.RunFault.{RunFault}
-use Rattle.run_text.specs.declared.fault.RunFault.TheVariants.{Memory as MemoryOfRuns}
-use Rattle.run_text.specs.Reader.{Reader}
-use Rattle.run_text.specs.Runs.{reading}
 use Rattle.signature_plan.specs.Outcomes.{outcome_of}
 use Rattle.verdict_report.specs.Lines.{signatures}
 use Rattle.run_text.specs.Items.{IsRefusedText}
-use Rattle.mtrace_app.specs.declared.failure.Failure.{Failure}
 use Rattle.mtrace_app.specs.declared.refusal.InputFault.{InputFault}
 use Rattle.mtrace_app.specs.declared.refusal.Refusal.{Refusal}
 use Rattle.mtrace_app.specs.declared.refusal.Refusal.TheVariants.{Input}
-use Rattle.mtrace_app.specs.Failures.{failure_of}
-use Rattle.mtrace_app.specs.Inputs.{fault_behind_test}
 use Rattle.mtrace_app.specs.Limits.{FitLimits}
 
 -- each signature of a tally means a run
@@ -40,7 +33,3 @@ pub record AreCountedWithin (p : Program) (runs : List (List ℕ)) (count : ℕ)
 -- a text of items, whose first line has this number, is refused as that of an input is
 abbrev pub RefusesBehind : {Item : Type 0} → (Item → List ℕ → Type 0) → (ℕ → List ℕ → InputFault → Type 0) → ℕ → List ℕ → Refusal → Type 0
 RefusesBehind IsLineOf IsBad line text refusal = (fault : InputFault) × (refusal ≡ Input fault) × IsRefusedText IsLineOf IsBad line text fault
-
--- the text of runs is refused so, or memory was refused
-abbrev pub FailsBehind : Reader → Failure → Type 0
-FailsBehind reader failure = (refusal : RunFault) × (failure ≡ failure_of (fault_behind_test refusal)) × ((refusal ≡ MemoryOfRuns) ⊎ (reading reader ≡ Err refusal))

@@ -15,6 +15,7 @@ use Rattle.run_text.specs.Runs.{IsLineOfRun, IsBadForRuns}
 use Rattle.run_text.specs.ScheduleReader.{Schedules}
 use Rattle.run_text.specs.ScheduleGrammar.{SpellsSteps, AllStepsFit, StartsWithSchedule, ScheduleMeans}
 use Rattle.test_lang.specs.declared.step.Step.{Step}
+use Rattle.run_count.specs.Counts.{text_of}
 use Rattle.sim_core.specs.Setup.{Setup, IsDonePlayOf, run_after}
 use Rattle.sim_core.specs.Drawn.{AreDrawnRuns}
 use Rattle.sim_core.specs.declared.schedule.PlayFault.{PlayFault}
@@ -83,12 +84,9 @@ AreRecordedRuns = IsRecordedText (λ p. IsLineOfRun (load_count p))
 abbrev pub AreRefusedRuns : List ℕ → InputFault → Type 0
 AreRefusedRuns = IsRefusedRecordedText (λ p. IsLineOfRun (load_count p)) (λ p. IsBadForRuns (load_count p)) fault_behind_test
 
--- the reader of the text behind a test, the first line of which has this number
-abbrev pub text_behind : Program → ℕ → List ℕ → Reader
-text_behind p line rest = record { left = rest; line = line; loads = load_count p; is_done = false }
-
+-- the reader of the text behind a test
 abbrev pub behind_test : Program → List ℕ → Reader
-behind_test p rest = text_behind p (length (test_lines p) + 1) rest
+behind_test p rest = text_of p (length (test_lines p) + 1) rest
 
 -- ---- the items are schedules, each a play to the end
 

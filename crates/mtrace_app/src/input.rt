@@ -44,7 +44,7 @@ fn read_recorded<R: Threads + Sync, G: Gate + Sync>(
         × (refusal ≡ Refusal.Input fault) × IsRefusedInput settings.now input.now fault)) }
 {
     match settings.command {
-        Command::Check => read_runs(alloc, input),
+        Command::Check => read_runs(rt, alloc, input, settings.workers),
         Command::Replay => read_plays(alloc, settings, input),
         Command::Run => draw_runs_of_input(rt, alloc, settings, input, gate),
         Command::Demo => Ok(draw_runs_of_generated(rt, alloc, settings, gate)?),

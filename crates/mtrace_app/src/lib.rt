@@ -18,6 +18,7 @@ mod generated;
 mod input;
 pub mod laws;
 mod limits;
+mod one_run;
 mod output;
 mod played;
 mod program;

@@ -1,5 +1,5 @@
 //! The limits on the runs of a test.
-ghost use Rattle.std.specs.Prelude.{◌^◌, ◌<◌, ◌≤◌, IsTrue, ◌↔◌, OnOk, IfErr};
+ghost use Rattle.std.specs.Prelude.{ℕ, ◌^◌, ◌<◌, ◌≤◌, IsTrue, ◌↔◌, OnOk, IfErr};
 ghost use Rattle.mtrace_app.specs.Limits.{FitLimits, PassLimit};
 
 use crate::refusal::Size;
@@ -15,6 +15,16 @@ pub(crate) fn fit_limits(runs: u64, loads: u64) -> bool
     ensures { IsTrue result ↔ FitLimits runs loads }
 {
     runs <= MAX_RUNS && runs * loads <= MAX_VALUES
+}
+
+/// The most runs of so many values each that are within the limits.
+pub(crate) fn most_runs(loads: u64) -> u64
+    ensures { (runs : ℕ) → FitLimits runs loads ↔ (runs ≤ result) }
+{
+    if loads == 0 {
+        return MAX_RUNS;
+    }
+    MAX_RUNS.min(MAX_VALUES / loads)
 }
 
 /// So many runs of so many values each are within the limits, or pass one.

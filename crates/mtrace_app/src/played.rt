@@ -13,7 +13,7 @@ ghost use Rattle.mtrace_app.specs.Inputs.{ArePlayedRuns, AreRefusedPlays, IsBadF
 ghost use Rattle.mtrace_app.specs.Played.{PlaysOn};
 
 use crate::failure::Failure;
-use crate::recorded::count_run;
+use crate::one_run::count_run;
 use crate::refusal::{InputFault, Reason, Refusal};
 use crate::test_runs::TestRuns;
 use command_line::Settings;

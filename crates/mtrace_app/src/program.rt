@@ -24,10 +24,10 @@ use std::thread::Threads;
 /// Answers the words, which stand behind the program's name. A status from 2 on is told by a line to `errs`.
 ///
 /// `check`, `replay`, `run` and `race` read the source to its end: a test, and for the first two recorded runs or schedules of it. `generate` and `demo` take
-/// nothing. `run` and `demo` play their runs by as many runners as the words say, and signatures are checked by as many workers. Runner `k` tells the
-/// gate `at(k, 0)` before its first run, in each race so does thread `k` of the test, and when all runs are made, so does worker `k` before its first
-/// signature; the gate is told too when a runner holds the turn of the set that runners share. The whole output is made before it is put to the sink, and
-/// each put offers all that is left of it.
+/// nothing. `check` reads and counts its runs by as many workers as the words say, `run` and `demo` play theirs by as many runners, and signatures are
+/// checked by as many workers. Runner `k` tells the gate `at(k, 0)` before its first run, in each race so does thread `k` of the test, and when all runs
+/// are there, so does worker `k` before its first signature; the gate is told too when a runner holds the turn of the set that runners share. Who reads and
+/// counts recorded runs tells it nothing. The whole output is made before it is put to the sink, and each put offers all that is left of it.
 pub fn mtrace<S: Source, K: Sink, E: Sink, G: Gate + Sync>(
     rt: &(impl Threads + Sync),
     alloc: Global,

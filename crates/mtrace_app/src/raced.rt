@@ -15,7 +15,7 @@ use crate::counted::{Counted, Output, report_of};
 use crate::drawn::read_test;
 use crate::failure::Failure;
 use crate::limits::check_limits;
-use crate::recorded::count_run;
+use crate::one_run::count_run;
 use crate::refusal::Refusal;
 use command_line::Settings;
 use mt_base::Gate;

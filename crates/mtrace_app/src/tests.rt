@@ -11,6 +11,7 @@ mod chunks;
 mod drawn;
 mod each_place;
 mod generated;
+mod pieces;
 mod plays;
 mod raced;
 mod together;

@@ -74,15 +74,16 @@ impl Gate for CountingGate {
     fn held(&self, _worker: u32) {}
 }
 
-/// The status of a call at this gate, for store buffering.
+/// The status of a call at this gate.
 fn status_at<G: Gate + Sync>(
     rt: &(impl Threads + Sync),
     alloc: Global,
     words: &str,
+    input: &str,
     gate: &G,
 ) -> Result<Status, AllocError> {
     let words = words_of(alloc, words)?;
-    let bytes = STORE_BUFFERING.as_bytes().to_vec(alloc)?;
+    let bytes = input.as_bytes().to_vec(alloc)?;
     let mut source = MemSource::new(bytes, 65_536, Vec::new(alloc));
     let mut sink = sink_of(alloc, &FREE)?;
     let mut errs = sink_of(alloc, &FREE)?;
@@ -94,11 +95,12 @@ fn calls_of(
     rt: &(impl Threads + Sync),
     alloc: Global,
     words: &str,
+    input: &str,
 ) -> Result<(Status, u64), AllocError> {
     let gate = CountingGate {
         at: AtomicU64::new(0),
     };
-    let status = status_at(rt, alloc, words, &gate)?;
+    let status = status_at(rt, alloc, words, input, &gate)?;
     Ok((status, gate.at.load(Ordering::SeqCst)))
 }
 
@@ -106,17 +108,38 @@ fn calls_of(
 fn runners_and_workers_tell_the_gate(rt: HostRuntime) -> Result<(), Fail> {
     let meeting = MeetGate::new();
     assert_eq!(rt;
-        status_at(&rt, rt.alloc(), "run --runners 2", &meeting)?,
+        status_at(
+            &rt,
+            rt.alloc(),
+            "run --runners 2",
+            STORE_BUFFERING,
+            &meeting
+        )?,
         Status::Clean
     );
     assert!(rt; meeting.met());
     assert_eq!(rt;
-        calls_of(&rt, rt.alloc(), "run --runners 3 --workers 5")?,
+        calls_of(
+            &rt,
+            rt.alloc(),
+            "run --runners 3 --workers 5",
+            STORE_BUFFERING
+        )?,
         (Status::Clean, 8)
     );
     assert_eq!(rt;
-        calls_of(&rt, rt.alloc(), "demo --ops 4 --runners 8")?,
+        calls_of(&rt, rt.alloc(), "demo --ops 4 --runners 8", "")?,
         (Status::Clean, 9)
+    );
+    Ok(())
+}
+
+#[test]
+fn reading_by_pieces_tells_the_gate_nothing(rt: HostRuntime) -> Result<(), Fail> {
+    let refused = joined(rt.alloc(), STORE_BUFFERING, "run 0 1\n", 70_000, "")?;
+    assert_eq!(rt;
+        calls_of(&rt, rt.alloc(), "check --workers 8", refused.as_str())?,
+        (Status::Input, 0)
     );
     Ok(())
 }

@@ -8,7 +8,7 @@ use Rattle.mtrace_app.proofs.InputsRead.{failed_by, failed_in_reading, recorded_
 use Rattle.mtrace_app.proofs.recorded.read_runs.Goals as goal
 
 pub returns-clause-ok : goal.returns-clause-ok
-returns-clause-ok c =
+returns-clause-ok g c =
     let read = c.in_ok-read.read in
     let input = c.args.input.now in
     let text : List ℕ = take (length input - read.used) (drop read.used input) in
@@ -21,12 +21,12 @@ returns-clause-ok c =
     )
 
 pub returns-in_err-read-clause-err : goal.returns-in_err-read-clause-err
-returns-in_err-read-clause-err c =
+returns-in_err-read-clause-err g c =
     let p = err_from_is_err_and c.from_residual.result c.from_residual.ensures.1 in
     rw (p.1, p.2) (failed_in_reading c.args.input.now c.in_err-read.field-0.0 c.in_err-read.ensures.refused)
 
 pub returns-in_err-runs-clause-err : goal.returns-in_err-runs-clause-err
-returns-in_err-runs-clause-err c =
+returns-in_err-runs-clause-err g c =
     let read = c.in_ok-read.read in
     let input = c.args.input.now in
     let text : List ℕ = take (length input - read.used) (drop read.used input) in

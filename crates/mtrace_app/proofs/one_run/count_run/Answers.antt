@@ -2,7 +2,7 @@ use Rattle.std.proofs.Common.{◌≡◌, List, [], ◌∷◌, ◌++◌, sym, sub
 use Rattle.std.proofs.lemmas.Result.{on_ok_weaker}
 use Rattle.tally.specs.declared.outcome.Outcome.{Outcome}
 use Rattle.tally.specs.Counting.{Counting, HasCounted}
-use Rattle.mtrace_app.proofs.recorded.count_run.Goals as goal
+use Rattle.mtrace_app.proofs.one_run.count_run.Goals as goal
 
 -- what is counted of an outcome is counted of one that is the same
 same_counted : {A : Type 0} (x y : Outcome) (old new : Counting) → x ≡ y → ((outcomes : List Outcome) → HasCounted outcomes old → HasCounted (outcomes ++ y ∷ []) new)
